@@ -1,1 +1,3 @@
 mod Letters
+mod Parts
+mod Places

@@ -1,8 +1,10 @@
 //! Two stores: a table of gates, and a table of NAND cells.
 mod cell;
+mod gate_table;
 mod part;
 mod settle;
 mod table;
 
+pub use gate_table::GateTable;
+pub use gate_table::GateTableStore;
 pub use part::Part;
-pub use table::CellTable;

@@ -8,9 +8,9 @@ ghost use Rattle.store.specs.declared.part.PartKind.{PartKind};
 ghost use Rattle.store.specs.declared.faults.StoreFault.the-variants.{NoSuchOperand};
 ghost use Rattle.store.specs.Faults.{storeTold};
 ghost use Rattle.store.specs.Meaning.{Meaning};
-ghost use Rattle.store.specs.Parts.{kindAt, missing, partLetter};
+ghost use Rattle.store.specs.Parts.{kindAt, missing};
 ghost use Rattle.store.specs.Place.{placeRefusal};
-ghost use Rattle.cells.specs.Read.{operandsOf, partOf};
+ghost use Rattle.cells.specs.Read.{gateDangles, gateLetter, operandsOf, partOf};
 
 use super::cell::Cell;
 use super::cell::leaf;
@@ -70,9 +70,9 @@ pub fn read_part(code: u8, a: usize, b: usize, size: usize) -> Result<Part, Stor
 }
 
 pub impl Cell for Part as PartCell {
-    ghost letter = { λ part leaves before. partLetter (part .kind) (part .first) (part .second) leaves before };
+    ghost letter = { gateLetter };
 
-    ghost dangles = { λ n part. missing (part .kind) (part .first) (part .second) n };
+    ghost dangles = { gateDangles };
 
     fn level<L: Level>(self, leaves: &[L], before: &[L]) -> L {
         let (a, b) = (self.first, self.second);
