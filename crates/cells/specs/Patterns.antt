@@ -1,7 +1,7 @@
 -- The patterns of NAND cells that stand for parts. Assumes nothing.
 use mathlib.Core.Bool.{Bool, true, false, _&&_}
 use mathlib.Core.List.{List, [], _∷_, _++_}
-use Prim.Native.Nat.{ℕ, suc, _-_}
+use Prim.Native.Nat.{ℕ, suc, _+_, _-_}
 use lib.Dec.{eqb, ltb}
 use lib.ListN.{length}
 use Rattle.level.specs.declared.letter.Letter.{Letter}
@@ -10,6 +10,9 @@ use Rattle.level.specs.Letters.{zeroL, oneL, notL, andL, orL, xorL, symbolOf}
 use Rattle.store.specs.declared.part.PartKind.{PartKind}
 use Rattle.store.specs.declared.part.PartKind.the-variants.{Zero, One, Leaf, Not, And, Or, Xor}
 use Rattle.store.specs.Meaning.{at}
+use Rattle.cells.specs.declared.nand.NandCell.{NandCell}
+use Rattle.cells.specs.declared.nand.NandCell.the-variants as nand
+use Rattle.cells.specs.declared.part.Part.{Part}
 use Rattle.cells.specs.declared.pattern.Pin.{Pin}
 use Rattle.cells.specs.declared.pattern.Pin.the-variants.{First, Second, Inner}
 use Rattle.cells.specs.declared.pattern.Stage.{Stage}
@@ -113,3 +116,17 @@ module _ (kind : PartKind) where
   abbrev pub wired : ℕ → List Stage → Bool
   wired n [] = true
   wired n (s ∷ stages) = stageWired n s && wired (suc n) stages
+
+module _ (part : Part) (base : ℕ) where
+  -- the signal that a pin names, where the pattern's first cell stands at the base
+  abbrev pub pinSignal : Pin → ℕ
+  pinSignal First = part .first
+  pinSignal Second = part .second
+  pinSignal (Inner n) = base + n
+
+  -- the cell of a stage
+  abbrev pub stageCell : Stage → NandCell
+  stageCell stage.Zero = nand.Zero
+  stageCell stage.One = nand.One
+  stageCell stage.Leaf = nand.Leaf (part .first)
+  stageCell (stage.Nand p q) = nand.Nand (pinSignal p) (pinSignal q)

@@ -1,9 +1,12 @@
 //! The table that expands parts into NAND cells.
 ghost use mathlib.Core.Bool.{true};
 ghost use mathlib.Core.Path.{_≡_};
+ghost use Prim.Native.Nat.{ℕ, _+_, _≤_};
 ghost use lib.ListN.{length};
-ghost use Rattle.cells.specs.Patterns.{nandPrice, realises, wired};
+ghost use Rattle.cells.specs.Patterns.{nandPrice, pinSignal, pinWired, realises, stageCell, stageWired, wired};
 
+use super::nand::NandCell;
+use super::part::Part;
 use store::PartKind;
 
 /// Where a NAND of a pattern takes an input from.
@@ -17,6 +20,20 @@ pub enum Pin {
     Inner(u32),
 }
 
+impl Pin {
+    // The signal that a pin of stage n names, where the pattern stands over a part's operands, its first cell at the base.
+    fn signal(self, part: Part, base: u32) -> u32
+        requires { ⌜ ((n : ℕ) × (pinWired (part .kind) n self ≡ true) × (base + n ≤ 1048576)) ⌝ }
+        ensures { λ r. ⌜ r ≡ pinSignal part base self ⌝ }
+    {
+        match self {
+            Pin::First => part.first,
+            Pin::Second => part.second,
+            Pin::Inner(k) => base + k,
+        }
+    }
+}
+
 /// A cell of a pattern. A leaf's number is the part's first operand.
 #[derive(Clone, Copy)]
 pub enum Stage {
@@ -24,6 +41,21 @@ pub enum Stage {
     One,
     Leaf,
     Nand(Pin, Pin),
+}
+
+impl Stage {
+    /// The cell of stage n, where the pattern stands over a part's operands, its first cell at the base.
+    pub fn over(self, part: Part, base: u32) -> NandCell
+        requires { ⌜ ((n : ℕ) × (stageWired (part .kind) n self ≡ true) × (base + n ≤ 1048576)) ⌝ }
+        ensures { λ r. ⌜ r ≡ stageCell part base self ⌝ }
+    {
+        match self {
+            Stage::Zero => NandCell::Zero,
+            Stage::One => NandCell::One,
+            Stage::Leaf => NandCell::Leaf(part.first),
+            Stage::Nand(p, q) => NandCell::Nand(p.signal(part, base), q.signal(part, base)),
+        }
+    }
 }
 
 const ZERO: [Stage; 1] = [Stage::Zero];
