@@ -13,7 +13,7 @@ use Rattle.level.specs.declared.letter.Letter.the-variants as letter
 use Rattle.store.specs.declared.part.PartKind.{PartKind}
 use Rattle.store.specs.declared.part.PartKind.the-variants.{Zero, One, Leaf, Not, And, Or, Xor}
 use Rattle.store.specs.Meaning.{at}
-use Rattle.store.specs.Parts.{missing, partLetter}
+use Rattle.store.specs.Parts.{kindLetter, missing}
 use Rattle.cells.specs.declared.nand.NandCell.{NandCell}
 use Rattle.cells.specs.declared.part.Part.{Part}
 use Rattle.cells.specs.declared.pattern.Pin.{Pin}
@@ -22,7 +22,7 @@ use Rattle.cells.specs.declared.pattern.Stage.{Stage}
 use Rattle.cells.specs.declared.pattern.Stage.the-variants as stage
 use Rattle.cells.specs.Cells.{lettersAfter, lettersOf}
 use Rattle.cells.specs.Nands.{nandL, nandLetter, nandDangles}
-use Rattle.cells.specs.Patterns.{everyLetter, hasFirst, hasSecond, isLeaf, kindLetter, lastLetter, nandPrice, pinLetter, pinSignal, pinWired, realises, sameLetter, stageCell, stageLetter, stageWired, stagesAfter, wired}
+use Rattle.cells.specs.Patterns.{everyLetter, hasFirst, hasSecond, isLeaf, lastLetter, nandPrice, pinLetter, pinSignal, pinWired, realises, sameLetter, stageCell, stageLetter, stageWired, stagesAfter, wired}
 use Rattle.cells.specs.Read.{gateDangles, gateLetter}
 use Rattle.cells.proofs.Letters.{letters-append, letters-length}
 
@@ -142,15 +142,6 @@ realised kind stages h leaf a b =
     let second : Letter → Letter → Bool = λ x y. everyLetter (third x y) in
     same _ _ (every (third leaf a) (every (second leaf) (every (λ x. everyLetter (second x)) h leaf) a) b)
 
-pub kind-letter : (kind : PartKind) (a b : ℕ) (leaves s : List Letter) → kindLetter kind (at leaves a) (at s a) (at s b) ≡ partLetter kind a b leaves s
-kind-letter Zero a b leaves s = refl
-kind-letter One a b leaves s = refl
-kind-letter Leaf a b leaves s = refl
-kind-letter Not a b leaves s = refl
-kind-letter And a b leaves s = refl
-kind-letter Or a b leaves s = refl
-kind-letter Xor a b leaves s = refl
-
 -- every part takes a cell
 pub some-cells : (kind : PartKind) → 0 < nandPrice kind
 some-cells Zero = lit< tt
@@ -174,4 +165,4 @@ pattern-means part cells stages leaves there w test =
     ap (λ y. at y n) (letters-append nandLetter leaves cells more [] ∙ ap (lettersAfter nandLetter leaves more) (sym (append-nil s)) ∙ stages-letters part (length cells) there leaves s size stages [] 0 refl w)
     ∙ getD-append-right s (stagesAfter leaf a b stages []) (length cells) n letter.Unknown size (omega arith)
     ∙ ap (at (stagesAfter leaf a b stages [])) (omega arith)
-    ∙ realised (part .kind) stages test leaf a b ∙ kind-letter (part .kind) (part .first) (part .second) leaves s
+    ∙ realised (part .kind) stages test leaf a b

@@ -6,10 +6,11 @@ use lib.Dec.{eqb, ltb}
 use lib.ListN.{length}
 use Rattle.level.specs.declared.letter.Letter.{Letter}
 use Rattle.level.specs.declared.letter.Letter.the-variants as letter
-use Rattle.level.specs.Letters.{zeroL, oneL, notL, andL, orL, xorL, symbolOf}
+use Rattle.level.specs.Letters.{zeroL, oneL, symbolOf}
 use Rattle.store.specs.declared.part.PartKind.{PartKind}
 use Rattle.store.specs.declared.part.PartKind.the-variants.{Zero, One, Leaf, Not, And, Or, Xor}
 use Rattle.store.specs.Meaning.{at}
+use Rattle.store.specs.Parts.{kindLetter}
 use Rattle.cells.specs.declared.nand.NandCell.{NandCell}
 use Rattle.cells.specs.declared.nand.NandCell.the-variants as nand
 use Rattle.cells.specs.declared.part.Part.{Part}
@@ -28,16 +29,6 @@ nandPrice Not = 1
 nandPrice And = 2
 nandPrice Or = 3
 nandPrice Xor = 4
-
--- the letter of a part, given those of its leaf and of its operands
-abbrev pub kindLetter : PartKind → Letter → Letter → Letter → Letter
-kindLetter Zero leaf a b = zeroL
-kindLetter One leaf a b = oneL
-kindLetter Leaf leaf a b = leaf
-kindLetter Not leaf a b = notL a
-kindLetter And leaf a b = andL a b
-kindLetter Or leaf a b = orL a b
-kindLetter Xor leaf a b = xorL a b
 
 module _ (leaf a b : Letter) where
   abbrev pub pinLetter : List Letter → Pin → Letter

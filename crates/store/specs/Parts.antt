@@ -32,15 +32,19 @@ codeOf And = 4
 codeOf Or = 5
 codeOf Xor = 6
 
--- the letter of a part over the operands a and b, given the letters of the leaves and of the signals before it
+-- the letter of a part, given those of its leaf and of its operands
+abbrev pub kindLetter : PartKind → Letter → Letter → Letter → Letter
+kindLetter Zero leaf a b = zeroL
+kindLetter One leaf a b = oneL
+kindLetter Leaf leaf a b = leaf
+kindLetter Not leaf a b = notL a
+kindLetter And leaf a b = andL a b
+kindLetter Or leaf a b = orL a b
+kindLetter Xor leaf a b = xorL a b
+
+-- the same over the operand numbers a and b, given the letters of the leaves and of the signals before it
 abbrev pub partLetter : PartKind → ℕ → ℕ → List Letter → List Letter → Letter
-partLetter Zero a b leaves signals = zeroL
-partLetter One a b leaves signals = oneL
-partLetter Leaf a b leaves signals = at leaves a
-partLetter Not a b leaves signals = notL (at signals a)
-partLetter And a b leaves signals = andL (at signals a) (at signals b)
-partLetter Or a b leaves signals = orL (at signals a) (at signals b)
-partLetter Xor a b leaves signals = xorL (at signals a) (at signals b)
+partLetter kind a b leaves signals = kindLetter kind (at leaves a) (at signals a) (at signals b)
 
 -- whether an operand that the part uses is not below the number of signals, or its leaf not below 1,088
 abbrev pub missing : PartKind → ℕ → ℕ → ℕ → Bool
