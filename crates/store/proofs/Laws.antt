@@ -1,6 +1,6 @@
 -- The laws of codes and of refusals, by their cases. Assumes nothing.
 use mathlib.Core.Bool.{Bool, true, false, cond}
-use mathlib.Core.Path.{_≡_, refl, ap, subst}
+use mathlib.Core.Path.{_≡_, refl, ap, sym, _∙_, subst}
 use Prim.Native.Nat.{ℕ, _<_, _≤_}
 use native.Mathlib.Omega.{arith}
 use lib.Dec.{ltb, lit≤}
@@ -116,6 +116,22 @@ module _ (price : PartKind → ℕ) (code a b : ℕ) (m : Meaning) where
         lowest = λ e f h k. omega (arith, lowest p q r f (holds f k), ap numberIn h);
         none = λ h f k. none p q r f (ap numberIn h) (holds f k);
       }
+
+-- a part whose operands are there is refused for want of cells alone
+pub only-full : (price : PartKind → ℕ) (code a b : ℕ) (m : Meaning) (e : StoreFault) → code ≤ 6 → missing (kindAt code) a b (m .size) ≡ false → placeRefusal price code a b m ≡ Some (storeTold e) → (e ≡ Full) × (m .free < price (kindAt code))
+only-full price code a b m NoSuchPart known there refused = absurd (omega (arith, lowest-first price code a b m .speaks NoSuchPart refused))
+only-full price code a b m NoSuchOperand known there refused = never (sym there ∙ lowest-first price code a b m .speaks NoSuchOperand refused)
+only-full price code a b m Full known there refused = (refl, lowest-first price code a b m .speaks Full refused)
+only-full price code a b m ShortTable known there refused = absurd (lowest-first price code a b m .speaks ShortTable refused)
+
+pub kind-at : (kind : PartKind) → kindAt (codeOf kind) ≡ kind
+kind-at Zero = refl
+kind-at One = refl
+kind-at Leaf = refl
+kind-at Not = refl
+kind-at And = refl
+kind-at Or = refl
+kind-at Xor = refl
 
 pub store-laws : StoreLaws
 store-laws = record { coded = coded; refused = lowest-first }
