@@ -7,7 +7,6 @@ ghost use lib.ListN.{length, take};
 ghost use Rattle.level.specs.declared.letter.Letter.{Letter};
 ghost use Rattle.store.specs.Meaning.{at};
 ghost use Rattle.store.specs.Settle.{column};
-
 use level::Level;
 
 /// A cell of a table, whose signal has the cell's place for its number.

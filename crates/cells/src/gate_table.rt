@@ -4,7 +4,6 @@ ghost use Prim.Native.Nat.{ℕ};
 ghost use Rattle.std.specs.Of.Vec.{vec-items};
 ghost use Rattle.cells.specs.Cells.{Sound, tableMeaning};
 ghost use Rattle.cells.specs.Read.{gateDangles, gateLetter};
-
 use super::part::Part;
 use super::part::PartCell;
 use super::part::read_part;

@@ -1,6 +1,5 @@
 //! A cell of the NAND table.
 ghost use Rattle.cells.specs.Nands.{nandDangles, nandLetter};
-
 use super::cell::Cell;
 use super::cell::leaf;
 use super::cell::signal;

@@ -9,7 +9,6 @@ ghost use Rattle.cells.specs.Cells.{Sound, tableMeaning};
 ghost use Rattle.cells.specs.Nands.{nandDangles, nandLetter};
 ghost use Rattle.cells.specs.Patterns.{nandPrice, stageCell, wired};
 ghost use Rattle.cells.specs.Read.{gateDangles};
-
 use super::nand::NandCell;
 use super::nand::NandCellCell;
 use super::part::Part;

@@ -11,7 +11,6 @@ ghost use Rattle.store.specs.Meaning.{Meaning};
 ghost use Rattle.store.specs.Parts.{kindAt, missing};
 ghost use Rattle.store.specs.Place.{placeRefusal};
 ghost use Rattle.cells.specs.Read.{gateDangles, gateLetter, operandsOf, partOf};
-
 use super::cell::Cell;
 use super::cell::leaf;
 use super::cell::signal;
@@ -66,7 +65,11 @@ pub fn read_part(code: u8, a: usize, b: usize, size: usize) -> Result<Part, Stor
         return Err(StoreFault::NoSuchPart);
     };
     let (first, second) = operands(kind, a, b, size)?;
-    Ok(Part { kind, first, second })
+    Ok(Part {
+        kind,
+        first,
+        second,
+    })
 }
 
 pub impl Cell for Part as PartCell {

@@ -4,7 +4,6 @@ ghost use mathlib.Core.Path.{_≡_};
 ghost use Prim.Native.Nat.{ℕ, _+_, _≤_};
 ghost use lib.ListN.{length};
 ghost use Rattle.cells.specs.Patterns.{nandPrice, pinSignal, pinWired, realises, stageCell, stageWired, wired};
-
 use super::nand::NandCell;
 use super::part::Part;
 use store::PartKind;

@@ -9,7 +9,6 @@ ghost use Rattle.store.specs.Faults.{storeTold};
 ghost use Rattle.store.specs.Settle.{Settled, settleRefusal};
 ghost use Rattle.cells.specs.Cells.{Sound, tableMeaning};
 ghost use Rattle.cells.specs.Fill.{Filled};
-
 use super::cell::Cell;
 use super::table::CellTable;
 use level::Level;

@@ -6,7 +6,6 @@ ghost use Prim.Native.Nat.{ℕ, _+_, _-_, _<_, _≤_};
 ghost use Rattle.std.specs.Of.Vec.{vec-cap, vec-items, vec-len};
 ghost use Rattle.std.specs.Results.{Cases};
 ghost use Rattle.store.specs.Faults.{NotMade};
-
 use std::alloc::Global;
 use store::MOST_CELLS;
 use store::NewStoreFault;

@@ -7,7 +7,6 @@ ghost use Rattle.std.specs.declared.option.Option.the-variants.{Some};
 ghost use Rattle.fault.specs.declared.Layer.{Layer};
 ghost use Rattle.fault.specs.declared.Refusal.{Refusal};
 ghost use Rattle.fault.specs.Print.{layerName, refusalLine};
-
 use std::fmt;
 
 /// The layer of the call that found a fault.

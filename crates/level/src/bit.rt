@@ -1,6 +1,5 @@
 //! One lane of 0 or 1.
 ghost use Rattle.level.specs.Letters.{boolLetter};
-
 use super::Letter;
 use super::Level;
 use super::LevelFault;

@@ -1,6 +1,5 @@
 //! What a level refuses.
 ghost use Rattle.level.specs.Faults.{levelTold};
-
 use fault::Fault;
 use fault::Layer;
 use fault::Refusal;
@@ -17,7 +16,11 @@ pub impl Fault for LevelFault as LevelFaultRefusal {
 
     fn refusal(&self) -> Refusal {
         match self {
-            LevelFault::NoSuchLane => Refusal { number: 25, place: 0, layer: Layer::Bench },
+            LevelFault::NoSuchLane => Refusal {
+                number: 25,
+                place: 0,
+                layer: Layer::Bench,
+            },
         }
     }
 }

@@ -2,7 +2,6 @@
 ghost use mathlib.Core.Path.{_≡_};
 ghost use Prim.Native.Nat.{ℕ, _<_};
 ghost use Rattle.level.specs.Letters.{zeroL, oneL, notL, andL, orL, xorL, laneLetter};
-
 use super::Letter;
 
 /// No lane.
@@ -52,5 +51,9 @@ pub(super) fn letter_at(a: u64, lane: usize) -> Letter
     requires { ⌜ lane < 64 ⌝ }
     ensures { λ r. ⌜ r ≡ laneLetter a lane ⌝ }
 {
-    if (a >> lane) & 1 == 1 { Letter::One } else { Letter::Zero }
+    if (a >> lane) & 1 == 1 {
+        Letter::One
+    } else {
+        Letter::Zero
+    }
 }

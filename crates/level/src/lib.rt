@@ -81,5 +81,4 @@ pub trait Level: Copy {
 /// The laws of letters on which later proofs rest.
 pub fn letter_laws()
     ensures { λ _. ⌜ LetterLaws ⌝ }
-{
-}
+{}

@@ -1,6 +1,5 @@
 //! Sixty-four lanes of 0 or 1, lane i in bit i.
 ghost use Rattle.level.specs.Letters.{laneLetter};
-
 use super::Letter;
 use super::Level;
 use super::LevelFault;

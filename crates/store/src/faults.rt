@@ -2,7 +2,6 @@
 ghost use mathlib.Core.Path.{_≡_};
 ghost use Rattle.store.specs.declared.faults.NewStoreFault.the-variants.{OutOfMemory};
 ghost use Rattle.store.specs.Faults.{storeRefusal, storeTold, newStoreTold};
-
 use fault::Fault;
 use fault::Layer;
 use fault::Refusal;
@@ -25,7 +24,11 @@ pub enum StoreFault {
 fn refusal_by(number: u8) -> Refusal
     ensures { λ r. ⌜ r ≡ storeRefusal number ⌝ }
 {
-    Refusal { number, place: 0, layer: Layer::Store }
+    Refusal {
+        number,
+        place: 0,
+        layer: Layer::Store,
+    }
 }
 
 pub impl Fault for StoreFault as StoreFaultRefusal {

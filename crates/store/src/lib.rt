@@ -62,7 +62,8 @@ pub trait Store {
 
     /// An empty store with so many free cells, at most 1,048,576.
     fn new(heap: Global, cells: usize) -> Result<Self, NewStoreFault>
-        where Self: Sized
+    where
+        Self: Sized,
         ensures { λ r. ⌜ Cases r
             (λ s. (means s .size ≡ 0) × (means s .free ≡ cells))
             (λ e. NotMade cells e) ⌝ };
@@ -92,5 +93,4 @@ pub trait Store {
 /// of the lowest number is told.
 pub fn store_laws()
     ensures { λ _. ⌜ StoreLaws ⌝ }
-{
-}
+{}

@@ -2,13 +2,20 @@
 use mathlib.Core.List.{List}
 use mathlib.Core.Path.{_≡_}
 use Prim.Native.Nat.{ℕ, _<_, _≤_}
+use lib.ListN.{length, getD}
 use Rattle.level.specs.declared.letter.Letter.{Letter}
+use Rattle.level.specs.declared.letter.Letter.the-variants as letter
+use Rattle.level.specs.declared.ternary.Ternary.{Ternary}
+use Rattle.store.specs.declared.faults.NewStoreFault.the-variants as new
+use Rattle.store.specs.declared.faults.StoreFault.the-variants as store
 use Rattle.store.specs.declared.part.PartKind.{PartKind}
 use Rattle.store.specs.declared.part.PartKind.the-variants.{Zero, One, Leaf, Not, And, Or, Xor}
 use Rattle.store.specs.declared.Store.{Ghosts}
 use Rattle.store.specs.Meaning.{at}
 use Rattle.store.specs.Parts.{kindLetter}
 use Rattle.trial.specs.declared.Placement.{Placement}
+use Rattle.trial.specs.declared.faults.TrialFault.{TrialFault}
+use Rattle.trial.specs.declared.faults.TrialFault.the-variants as fault
 
 -- the first operand of a part over a signal, or over leaf 0
 abbrev pub firstOf : PartKind → ℕ → ℕ
@@ -25,3 +32,16 @@ pub record OverLeaves {X : Type 0} (S : Ghosts X) (kind : PartKind) (s : X) (p :
   pub there : p .signal < S .means s .size
   pub letter : (leaves : List Letter) → at (S .means s .signals leaves) (p .signal) ≡ kindLetter kind (at leaves 0) (at leaves 0) (at leaves 1)
   pub few : p .cells ≤ S .price kind
+
+-- a leaf table whose first two rows have these letters
+pub record LeafRows (a b : Letter) (rows : List Ternary) : Type 0 where
+  pub long : length rows ≡ 1088
+  pub first : getD rows 0 (record { 0 = letter.Zero }) ≡ record { 0 = a }
+  pub second : getD rows 1 (record { 0 = letter.Zero }) ≡ record { 0 = b }
+
+-- a trial fails for want of memory or of cells alone
+abbrev pub Excused : TrialFault → Type 0
+Excused (fault.New e) = e ≡ new.OutOfMemory
+Excused (fault.Store e) = e ≡ store.Full
+Excused (fault.Level e) = ⊥
+Excused fault.OutOfMemory = Unit {0}

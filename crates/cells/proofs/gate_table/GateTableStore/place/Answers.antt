@@ -55,10 +55,10 @@ returns c =
     (omega arith)
     (omega (arith, c .push .ensures .at))
     (λ leaves.
-        let before = lettersOf gateLetter leaves cells in
-        let here : length before ≡ c .push .result = letters-length gateLetter leaves cells [] ∙ omega (arith, c .push .ensures .at) in
-        ap (λ y. at (lettersOf gateLetter leaves y) (c .push .result)) (c .push .ensures .items)
-        ∙ ap (λ y. at y (c .push .result)) (letters-push gateLetter leaves cells part)
-        ∙ getD-push before (gateLetter part leaves before) Unknown (c .push .result) here
-        ∙ ap (λ y. gateLetter y leaves before) (read .1)
-        ∙ gate-means (kindAt code) a b leaves before)
+    let before = lettersOf gateLetter leaves cells in
+    let here : length before ≡ c .push .result = letters-length gateLetter leaves cells [] ∙ omega (arith, c .push .ensures .at) in
+    ap (λ y. at (lettersOf gateLetter leaves y) (c .push .result)) (c .push .ensures .items)
+    ∙ ap (λ y. at y (c .push .result)) (letters-push gateLetter leaves cells part)
+    ∙ getD-push before (gateLetter part leaves before) Unknown (c .push .result) here
+    ∙ ap (λ y. gateLetter y leaves before) (read .1)
+    ∙ gate-means (kindAt code) a b leaves before)

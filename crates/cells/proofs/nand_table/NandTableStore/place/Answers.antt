@@ -67,7 +67,7 @@ returns c =
     (omega (arith, c .pattern .ensures .priced))
     (omega (arith, c .expand .ensures .last))
     (λ leaves.
-        let before = lettersOf nandLetter leaves cells in
-        ap (λ y. at (lettersOf nandLetter leaves y) signal) (c .expand .ensures .items) ∙ ap (at (lettersOf nandLetter leaves _)) last
-        ∙ pattern-means part cells stages leaves known (c .pattern .ensures .wired) (c .pattern .ensures .realised)
-        ∙ ap (λ p. gateLetter p leaves before) (read .1) ∙ gate-means kind a b leaves before)
+    let before = lettersOf nandLetter leaves cells in
+    ap (λ y. at (lettersOf nandLetter leaves y) signal) (c .expand .ensures .items) ∙ ap (at (lettersOf nandLetter leaves _)) last
+    ∙ pattern-means part cells stages leaves known (c .pattern .ensures .wired) (c .pattern .ensures .realised)
+    ∙ ap (λ p. gateLetter p leaves before) (read .1) ∙ gate-means kind a b leaves before)
