@@ -45,7 +45,8 @@ impl NandTable {
         for stage in stages {
             self.table.push(stage.over(part, base));
         }
-        self.table.len() - 1
+        let cells = self.table.len();
+        cells - 1
     }
 }
 

@@ -1,11 +1,16 @@
 //! Why a trial is not made.
 ghost use mathlib.Core.Path.{_≡_};
 ghost use Rattle.trial.specs.declared.faults.TrialFault.the-variants.{Level, New, OutOfMemory, Store};
+use fault::Fault;
+use fault::RefusalDisplay;
 use level::LevelFault;
 use level::LevelFaultDebug;
 use level::LevelFaultEq;
 use level::LevelFaultPartialEq;
+use level::LevelFaultRefusal;
 use std::alloc::AllocError;
+use std::error::Error;
+use std::fmt;
 use store::NewStoreFault;
 use store::NewStoreFaultDebug;
 use store::NewStoreFaultEq;
@@ -14,6 +19,7 @@ use store::StoreFault;
 use store::StoreFaultDebug;
 use store::StoreFaultEq;
 use store::StoreFaultPartialEq;
+use store::StoreFaultRefusal;
 
 /// Why a trial is not made; each fault below is carried whole.
 #[derive(Clone, Copy, PartialEq, Eq, Debug)]
@@ -27,6 +33,22 @@ pub enum TrialFault {
     /// There is no memory for the tables.
     OutOfMemory,
 }
+
+pub impl fmt::Display for TrialFault as TrialFaultDisplay {
+    fn fmt<W: fmt::Write>(&self, f: &mut fmt::Formatter<W>) -> fmt::Result {
+        match self {
+            TrialFault::New(NewStoreFault::TooManyCells) => f.write_str(
+                "a store has at most 1,048,576 cells",
+            ),
+            TrialFault::New(NewStoreFault::OutOfMemory) => f.write_str("no memory for the store"),
+            TrialFault::Store(e) => fmt::Display::fmt(&e.refusal(), f),
+            TrialFault::Level(e) => fmt::Display::fmt(&e.refusal(), f),
+            TrialFault::OutOfMemory => f.write_str("no memory for the tables"),
+        }
+    }
+}
+
+pub impl Error for TrialFault as TrialFaultError {}
 
 pub impl From<NewStoreFault> for TrialFault as TrialFaultFromNew {
     ghost converts = { λ e r. r ≡ New e };

@@ -18,7 +18,9 @@ mod faults;
 
 pub use faults::TrialFault;
 pub use faults::TrialFaultDebug;
+pub use faults::TrialFaultDisplay;
 pub use faults::TrialFaultEq;
+pub use faults::TrialFaultError;
 pub use faults::TrialFaultFromAlloc;
 pub use faults::TrialFaultFromLevel;
 pub use faults::TrialFaultFromNew;
@@ -102,7 +104,12 @@ fn leaf_rows(heap: Global, a: Letter, b: Letter) -> Result<Vec<Ternary>, AllocEr
 }
 
 // The letter of a signal, for the levels of the leaves.
-fn signal_letter<S: Store>(store: &S, leaves: &[Ternary], work: &mut [Ternary], signal: usize) -> Result<Letter, TrialFault>
+fn signal_letter<S: Store>(
+    store: &S,
+    leaves: &[Ternary],
+    work: &mut [Ternary],
+    signal: usize,
+) -> Result<Letter, TrialFault>
     requires there { ⌜ signal < S·Store .means (now store) .size ⌝ }
     requires wide { ⌜ 1088 ≤ length (now leaves) ⌝ }
     requires long { ⌜ S·Store .means (now store) .size ≤ length (now work) ⌝ }
