@@ -10,7 +10,7 @@ ghost use Rattle.store.specs.Settle.{column};
 use level::Level;
 
 /// A cell of a table, whose signal has the cell's place for its number.
-pub trait Cell: Copy {
+pub(crate) trait Cell: Copy {
     /// The letter of the cell, given the letters of the leaves and of the signals before it.
     ghost letter: { Self → List Letter → List Letter → Letter };
 
@@ -24,7 +24,7 @@ pub trait Cell: Copy {
 }
 
 /// The level of a leaf.
-pub fn leaf<L: Level>(leaves: &[L], n: u32) -> L
+pub(crate) fn leaf<L: Level>(leaves: &[L], n: u32) -> L
     requires { ⌜ n < 1088 ⌝ ∗ ⌜ 1088 ≤ length (now leaves) ⌝ }
     ensures { λ r. ⌜ ((k : ℕ) → k < L·Level .lanes → L·Level .letters r k ≡ at (column L·Level k (take 1088 (now (leaves .entry)))) n) ⌝ }
 {
@@ -32,7 +32,7 @@ pub fn leaf<L: Level>(leaves: &[L], n: u32) -> L
 }
 
 /// The level of a signal before a cell.
-pub fn signal<L: Level>(before: &[L], n: u32) -> L
+pub(crate) fn signal<L: Level>(before: &[L], n: u32) -> L
     requires { ⌜ n < length (now before) ⌝ }
     ensures { λ r. ⌜ ((k : ℕ) → k < L·Level .lanes → L·Level .letters r k ≡ at (column L·Level k (now (before .entry))) n) ⌝ }
 {

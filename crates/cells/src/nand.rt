@@ -14,7 +14,7 @@ pub enum NandCell {
     Nand(u32, u32),
 }
 
-pub impl Cell for NandCell as NandCellCell {
+pub(crate) impl Cell for NandCell as NandCellCell {
     ghost letter = { nandLetter };
 
     ghost dangles = { nandDangles };

@@ -27,7 +27,7 @@ pub struct Part {
     pub second: u32,
 }
 
-// An operand, where it is below the limit.
+// An operand, where it is below its limit.
 fn operand(n: usize, limit: usize) -> Result<u32, StoreFault>
     requires { ⌜ limit ≤ 1048576 ⌝ }
     ensures { λ r. ⌜ Cases r (λ v. (n < limit) × (v ≡ n)) (λ e. (limit ≤ n) × (e ≡ NoSuchOperand)) ⌝ }
@@ -55,7 +55,7 @@ fn operands(kind: PartKind, a: usize, b: usize, size: usize) -> Result<(u32, u32
 }
 
 /// The part of a code over its operands, in a store of so many signals.
-pub fn read_part(code: u8, a: usize, b: usize, size: usize) -> Result<Part, StoreFault>
+pub(crate) fn read_part(code: u8, a: usize, b: usize, size: usize) -> Result<Part, StoreFault>
     requires { ⌜ size ≤ 1048576 ⌝ }
     ensures { λ r. ⌜ Cases r
         (λ part. (code ≤ 6) × (part ≡ partOf (kindAt code) a b) × (missing (kindAt code) a b size ≡ false))
@@ -72,7 +72,7 @@ pub fn read_part(code: u8, a: usize, b: usize, size: usize) -> Result<Part, Stor
     })
 }
 
-pub impl Cell for Part as PartCell {
+pub(crate) impl Cell for Part as PartCell {
     ghost letter = { gateLetter };
 
     ghost dangles = { gateDangles };

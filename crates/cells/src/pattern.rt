@@ -10,7 +10,7 @@ use store::PartKind;
 
 /// Where a NAND of a pattern takes an input from.
 #[derive(Clone, Copy)]
-pub enum Pin {
+pub(crate) enum Pin {
     /// The part's first operand.
     First,
     /// The part's second operand.
@@ -35,7 +35,7 @@ impl Pin {
 
 /// A cell of a pattern. A leaf's number is the part's first operand.
 #[derive(Clone, Copy)]
-pub enum Stage {
+pub(crate) enum Stage {
     Zero,
     One,
     Leaf,
@@ -44,7 +44,7 @@ pub enum Stage {
 
 impl Stage {
     /// The cell of stage n, where the pattern stands over a part's operands, its first cell at the base.
-    pub fn over(self, part: Part, base: u32) -> NandCell
+    pub(crate) fn over(self, part: Part, base: u32) -> NandCell
         requires { ⌜ ((n : ℕ) × (stageWired (part .kind) n self ≡ true) × (base + n ≤ 1048576)) ⌝ }
         ensures { λ r. ⌜ r ≡ stageCell part base self ⌝ }
     {
@@ -84,7 +84,7 @@ const XOR: [Stage; 4] = [
 ];
 
 /// The cells that stand for a part: the letter of the last is the part's, whatever the letters of its operands are.
-pub fn pattern(kind: PartKind) -> &'static [Stage]
+pub(crate) fn pattern(kind: PartKind) -> &'static [Stage]
     ensures wired { λ r. ⌜ wired kind 0 (now r) ≡ true ⌝ }
     ensures realised { λ r. ⌜ realises kind (now r) ≡ true ⌝ }
     ensures priced { λ r. ⌜ length (now r) ≡ nandPrice kind ⌝ }

@@ -27,7 +27,7 @@ fn fill<C: Cell, L: Level>(cells: &[C], leaves: &[L], work: &mut [L])
 
 impl<C: Cell> CellTable<C> {
     /// Fills the first rows of the working table, one for each cell, with the cells' levels for those of the leaves.
-    pub fn settle<L: Level>(&self, leaves: &[L], work: &mut [L]) -> Result<(), StoreFault>
+    pub(crate) fn settle<L: Level>(&self, leaves: &[L], work: &mut [L]) -> Result<(), StoreFault>
         requires { ⌜ Sound (C·Cell .dangles) (vec-items (now self .cells)) ⌝ }
         ensures { λ r. ⌜ Cases r
             (λ _. Settled L·Level (tableMeaning (C·Cell .letter) (vec-items (now (self .entry) .cells)) (now (self .entry) .limit)) (now (leaves .entry)) (now (work .entry)) (now (work .exit)))

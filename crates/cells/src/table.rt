@@ -13,9 +13,9 @@ use store::NewStoreFaultFromAlloc;
 
 /// Cells in the order in which they were added, at most `limit` of them. The memory for all is taken at once.
 #[derive(Drop)]
-pub struct CellTable<C> {
-    pub cells: Vec<C>,
-    pub limit: usize,
+pub(crate) struct CellTable<C> {
+    pub(crate) cells: Vec<C>,
+    pub(crate) limit: usize,
     ghost bounded: { limit ≤ 1048576 },
     ghost within: { vec-len cells ≤ limit },
     ghost reserved: { limit ≤ vec-cap cells },
@@ -23,7 +23,7 @@ pub struct CellTable<C> {
 
 impl<C> CellTable<C> {
     /// An empty table.
-    pub fn new(heap: Global, limit: usize) -> Result<CellTable<C>, NewStoreFault>
+    pub(crate) fn new(heap: Global, limit: usize) -> Result<CellTable<C>, NewStoreFault>
         ensures { λ r. ⌜ Cases r (λ t. (vec-items (t .cells) ≡ []) × (vec-len (t .cells) ≡ 0) × (t .limit ≡ limit)) (λ e. NotMade limit e) ⌝ }
     {
         if limit > MOST_CELLS {
@@ -34,21 +34,21 @@ impl<C> CellTable<C> {
     }
 
     /// How many cells there are.
-    pub fn len(&self) -> usize
+    pub(crate) fn len(&self) -> usize
         ensures { λ r. ⌜ r ≡ vec-len (now (self .entry) .cells) ⌝ }
     {
         self.cells.len()
     }
 
     /// How many cells are free.
-    pub fn room(&self) -> usize
+    pub(crate) fn room(&self) -> usize
         ensures { λ r. ⌜ r ≡ now (self .entry) .limit - vec-len (now (self .entry) .cells) ⌝ }
     {
         self.limit - self.cells.len()
     }
 
     /// Adds a cell, and answers its place.
-    pub fn push(&mut self, cell: C) -> usize
+    pub(crate) fn push(&mut self, cell: C) -> usize
         requires { ⌜ vec-len (now self .cells) < now self .limit ⌝ }
         ensures at { λ r. ⌜ r ≡ vec-len (now (self .entry) .cells) ⌝ }
         ensures items { λ _. ⌜ vec-items (now (self .exit) .cells) ≡ vec-items (now (self .entry) .cells) ++ cell ∷ [] ⌝ }

@@ -11,6 +11,8 @@ mod tests {
     use level::LetterDebug;
     use level::LetterPartialEq;
     use level::Level;
+    use level::LevelFaultDebug;
+    use level::LevelFaultPartialEq;
     use level::Ternary;
     use level::TernaryLevel;
     use level::Word;
@@ -33,9 +35,18 @@ mod tests {
         let mut store = S::new(rt.alloc(), 0)?;
         check_eq(store.place(7, 9, 9), Err(StoreFault::NoSuchPart))?;
         check_eq(store.place(255, 0, 0), Err(StoreFault::NoSuchPart))?;
-        check_eq(store.place(PartKind::And.code(), 0, 0), Err(StoreFault::NoSuchOperand))?;
-        check_eq(store.place(PartKind::Leaf.code(), 1088, 0), Err(StoreFault::NoSuchOperand))?;
-        check_eq(store.place(PartKind::Leaf.code(), 1087, usize::MAX), Err(StoreFault::Full))?;
+        check_eq(
+            store.place(PartKind::And.code(), 0, 0),
+            Err(StoreFault::NoSuchOperand),
+        )?;
+        check_eq(
+            store.place(PartKind::Leaf.code(), 1088, 0),
+            Err(StoreFault::NoSuchOperand),
+        )?;
+        check_eq(
+            store.place(PartKind::Leaf.code(), 1087, usize::MAX),
+            Err(StoreFault::Full),
+        )?;
         check_eq(store.count(), 0)
     }
 
