@@ -13,7 +13,7 @@ use Rattle.store.specs.Parts.{kindAt, missing}
 use Rattle.cells.specs.Cells.{lettersOf, tableMeaning}
 use Rattle.cells.specs.Read.{gateDangles, gateLetter, partOf}
 use Rattle.cells.proofs.Letters.{letters-length, letters-push}
-use Rattle.cells.proofs.Parts.{gate-dangles, gate-means}
+use Rattle.cells.proofs.Parts.{gate-means, read-there}
 use Rattle.cells.proofs.Places.{none-against, placed-by, sound-push}
 use Rattle.cells.proofs.gate_table.GateTableStore.place.Needs as need
 
@@ -30,11 +30,8 @@ ghost-self c =
     let cells = vec-items (old .table .cells) in
     let part = c .in-Continue-part .part in
     let read = c .in-Continue-part .ensures tt in
-    let size : length cells ≡ c .len .result = omega arith in
-    let here : gateDangles (length cells) part ≡ false =
-    ap (gateDangles (length cells)) (read .1) ∙ gate-dangles (kindAt (c .args .code)) (c .args .a) (c .args .b) (length cells)
-    ∙ ap (missing (kindAt (c .args .code)) (c .args .a) (c .args .b)) size ∙ read .2 in
-    (sound-push gateDangles cells (vec-items (c .push .last .self .cells)) part (c .push .ensures .items) (old .sound) here, tt)
+    let there = read-there (kindAt (c .args .code)) (c .args .a) (c .args .b) (length cells) (c .len .result) part (read .1) (omega arith) (read .2) in
+    (sound-push gateDangles cells (vec-items (c .push .last .self .cells)) part (c .push .ensures .items) (old .sound) there, tt)
 
 pub returns : need.returns
 returns c =

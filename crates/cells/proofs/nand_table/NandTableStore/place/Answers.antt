@@ -13,7 +13,7 @@ use Rattle.cells.specs.Cells.{lettersOf, tableMeaning}
 use Rattle.cells.specs.Nands.{nandLetter}
 use Rattle.cells.specs.Patterns.{nandPrice, stageCell}
 use Rattle.cells.specs.Read.{gateDangles, gateLetter, partOf}
-use Rattle.cells.proofs.Parts.{gate-dangles, gate-means}
+use Rattle.cells.proofs.Parts.{gate-means, read-there}
 use Rattle.cells.proofs.Patterns.{pattern-means, some-cells}
 use Rattle.cells.proofs.Places.{none-against, placed-by}
 use Rattle.cells.proofs.nand_table.NandTableStore.place.Needs as need
@@ -31,10 +31,9 @@ expand-requires c κs =
     let part = c .in-Continue-part .part in
     let read = c .in-Continue-part .ensures tt in
     let kind = kindAt (c .args .code) in
-    let size : length cells ≡ c .len .result = omega arith in
     record {
       wired = c .pattern .ensures .wired;
-      there = ap (gateDangles (length cells)) (read .1) ∙ gate-dangles kind (c .args .a) (c .args .b) (length cells) ∙ ap (missing kind (c .args .a) (c .args .b)) size ∙ read .2;
+      there = read-there kind (c .args .a) (c .args .b) (length cells) (c .len .result) part (read .1) (omega arith) (read .2);
       some = omega (arith, c .pattern .ensures .priced, some-cells (part .kind));
       fits = omega (arith, c .pattern .ensures .priced, c .cost .ensures);
     }
@@ -56,7 +55,7 @@ returns c =
     let signal = c .expand .result in
     let size : length cells ≡ c .len .result = omega arith in
     let there : missing kind a b (length cells) ≡ false = ap (missing kind a b) size ∙ read .2 in
-    let known : gateDangles (length cells) part ≡ false = ap (gateDangles (length cells)) (read .1) ∙ gate-dangles kind a b (length cells) ∙ there in
+    let known : gateDangles (length cells) part ≡ false = read-there kind a b (length cells) (c .len .result) part (read .1) size (read .2) in
     let same : nandPrice (part .kind) ≡ nandPrice kind = ap (λ p. nandPrice (p .kind)) (read .1) in
     let many : length more ≡ length stages = simp length-map in
     let longer : length new ≡ length cells + length more = ap length (c .expand .ensures .items) ∙ length-append cells more in
