@@ -68,12 +68,14 @@ mod tests {
         let mut store = S::new(rt.alloc(), 8)?;
         let one = store.place(PartKind::One.code(), 0, 0)?;
         let leaves = vec![in rt.alloc(); Ternary(Letter::Unknown); LEAVES]?;
-        let short = vec![in rt.alloc(); Ternary(Letter::Unknown); 1087]?;
         let mut work = vec![in rt.alloc(); Ternary(Letter::Unknown); 4]?;
-        check_eq(store.settle(&short, &mut work), Err(StoreFault::ShortTable))?;
+        check_eq(
+            store.settle(&leaves[0..1087], &mut work),
+            Err(StoreFault::ShortTable),
+        )?;
         check_eq(store.settle(&leaves, &mut []), Err(StoreFault::ShortTable))?;
         check_eq(letter(&work, one), Ok(Letter::Unknown))?;
-        check(store.settle(&leaves, &mut work).is_ok())?;
+        check_eq(store.settle(&leaves, &mut work), Ok(()))?;
         check_eq(letter(&work, one), Ok(Letter::One))?;
         check_eq(letter(&work, 3), Ok(Letter::Unknown))
     }
@@ -130,7 +132,7 @@ mod tests {
         let mut leaves = vec![in rt.alloc(); Word(0); LEAVES]?;
         leaves[0] = Word(0x0123_4567_89ab_cdef);
         leaves[1] = Word(0xffff_0000_ffff_0000);
-        let mut work = vec![in rt.alloc(); Word(0); 8]?;
+        let mut work = [Word(0); 8];
         store.settle(&leaves, &mut work)?;
         match work.get(xor) {
             Some(level) => {
