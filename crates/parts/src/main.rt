@@ -157,6 +157,9 @@ fn run(rt: &LibcRuntime) -> Result<(), AnyError> {
     let agreed = tally.agreed;
     let lines = tally.lines;
     println!(rt, "{agreed} of {lines} lines agree with the letter rules")?;
+    if agreed < lines {
+        return Err("a store answered another letter than the rules give".into());
+    }
     Ok(())
 }
 

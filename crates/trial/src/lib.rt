@@ -37,11 +37,11 @@ use store::PartKind;
 use store::Store;
 use store::StoreFault;
 
-/// Where a part stands, and how many cells it took.
+// Where a part stands, and how many cells it took.
 #[derive(Clone, Copy)]
-pub struct Placement {
-    pub signal: usize,
-    pub cells: usize,
+struct Placement {
+    signal: usize,
+    cells: usize,
 }
 
 /// What a part answered, and how many cells it took.
@@ -51,7 +51,7 @@ pub struct Trial {
     pub cells: usize,
 }
 
-/// How many cells the store of a trial has.
+// How many cells the store of a trial has.
 const CELLS: usize = 16;
 
 /// The letter that the rules give a part over the letters a and b; a leaf has the letter a.
@@ -79,8 +79,8 @@ fn first_operand(kind: PartKind, signal: usize) -> usize
     }
 }
 
-/// Places a part over the leaves 0 and 1.
-pub fn place_over_leaves<S: Store>(store: &mut S, kind: PartKind) -> Result<Placement, StoreFault>
+// Places a part over the leaves 0 and 1.
+fn place_over_leaves<S: Store>(store: &mut S, kind: PartKind) -> Result<Placement, StoreFault>
     ensures { λ r. ⌜ Cases r (λ p. OverLeaves S·Store kind (now (store .exit)) p) (λ e. e ≡ Full) ⌝ }
 {
     let a = store.place(PartKind::Leaf.code(), 0, 0)?;
