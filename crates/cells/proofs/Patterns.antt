@@ -1,5 +1,5 @@
 -- Patterns of NAND cells, laid over the operands of a part. Assumes nothing.
-use mathlib.Core.Bool.{Bool, true, false, cond, _&&_, _||_}
+use mathlib.Core.Bool.{Bool, true, false, _&&_, _||_}
 use mathlib.Core.List.{List, [], _∷_, _++_, map, append-assoc, append-nil}
 use mathlib.Core.Path.{_≡_, refl, ap, sym, _∙_, subst}
 use Prim.Native.Nat.{ℕ, zero, suc, _+_, _-_, _<_, _≤_}
@@ -14,6 +14,7 @@ use Rattle.store.specs.declared.part.PartKind.{PartKind}
 use Rattle.store.specs.declared.part.PartKind.the-variants.{Zero, One, Leaf, Not, And, Or, Xor}
 use Rattle.store.specs.Meaning.{at}
 use Rattle.store.specs.Parts.{kindLetter, missing}
+use Rattle.store.proofs.Laws.{never}
 use Rattle.cells.specs.declared.nand.NandCell.{NandCell}
 use Rattle.cells.specs.declared.part.Part.{Part}
 use Rattle.cells.specs.declared.pattern.Pin.{Pin}
@@ -25,9 +26,6 @@ use Rattle.cells.specs.Nands.{nandL, nandLetter, nandDangles}
 use Rattle.cells.specs.Patterns.{everyLetter, hasFirst, hasSecond, isLeaf, lastLetter, nandPrice, pinLetter, pinSignal, pinWired, realises, sameLetter, stageCell, stageLetter, stageWired, stagesAfter, wired}
 use Rattle.cells.specs.Read.{gateDangles, gateLetter}
 use Rattle.cells.proofs.Letters.{letters-append, letters-length}
-
-never : {A : Type 0} → false ≡ true → A
-never h = absurd (subst (λ b. cond b ⊥ (Unit {0})) h tt)
 
 -- the operands that a part has are there
 first-below : (kind : PartKind) (a b n : ℕ) → hasFirst kind ≡ true → missing kind a b n ≡ false → a < n

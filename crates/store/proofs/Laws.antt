@@ -61,7 +61,8 @@ speaks false false false NoSuchOperand h = absurd (omega arith)
 speaks false false false Full h = absurd (omega arith)
 speaks false false false ShortTable h = omega arith
 
-never : {A : Type 0} → false ≡ true → A
+-- no test is both
+pub never : {A : Type 0} → false ≡ true → A
 never h = absurd (subst (λ b. cond b ⊥ (Unit {0})) h tt)
 
 -- and no test that is true has a lower one

@@ -12,7 +12,7 @@ ghost use Rattle.store.specs.declared.faults.StoreFault.the-variants.{Full};
 ghost use Rattle.store.specs.Meaning.{at};
 ghost use Rattle.store.specs.Parts.{kindLetter};
 ghost use Rattle.store.specs.Settle.{column};
-ghost use Rattle.trial.specs.Trials.{Excused, LeafRows, OverLeaves, firstOf};
+ghost use Rattle.trial.specs.Trials.{Excused, LeafRows, OverLeaves, Tried, firstOf};
 
 mod faults;
 
@@ -126,7 +126,7 @@ pub fn try_part<S: Store + Drop>(
     a: Letter,
     b: Letter,
 ) -> Result<Trial, TrialFault>
-    ensures { λ r. ⌜ Cases r (λ t. (t .letter ≡ kindLetter kind a a b) × (t .cells ≤ S·Store .price kind)) (λ e. Excused e) ⌝ }
+    ensures { λ r. ⌜ Cases r (λ t. Tried S·Store kind a b t) (λ e. Excused e) ⌝ }
 {
     let mut store = S::new(heap, CELLS)?;
     let place = place_over_leaves(&mut store, kind)?;

@@ -1,8 +1,9 @@
 use native.Mathlib.Omega.{arith}
-use mathlib.Core.Path.{_≡_, ap, sym, _∙_}
+use mathlib.Core.Path.{_≡_, ap, _∙_, subst}
 use Rattle.store.specs.declared.part.PartKind.the-variants.{Leaf}
 use Rattle.store.specs.Meaning.{at}
 use Rattle.store.specs.Parts.{codeOf, kindAt, partLetter}
+use Rattle.store.specs.Place.{Placed}
 use Rattle.store.proofs.Laws.{kind-at}
 use Rattle.store.proofs.Signals.{at-placed, at-stays}
 use Rattle.trial.specs.Trials.{firstOf}
@@ -18,6 +19,13 @@ returns g c =
     let r = c .in-Continue-signal .ensures tt in
     let last : kindAt (c .code-3 .result) ≡ kind = ap kindAt (c .code-3 .ensures) ∙ kind-at kind in
     record {
+      took = record {
+        before = c .place-2 .last .self;
+        first = c .first-operand .result;
+        second = c .in-Continue-b .b;
+        placed = subst (λ code. Placed (g .S·Store .price) code (c .first-operand .result) (c .in-Continue-b .b) (means (c .place-2 .last .self)) (means (c .place-3 .last .self)) (c .in-Continue-signal .signal)) (c .code-3 .ensures) r;
+        taken = omega (arith, r .longer, c .count .ensures, c .count-before .ensures);
+      };
       there = r .there;
       letter = λ leaves.
           let signals = means (c .place-2 .last .self) .signals leaves in

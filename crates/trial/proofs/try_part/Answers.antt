@@ -20,4 +20,10 @@ returns g c =
     let letters : List Letter = column ternary 0 (take 1088 leaves) in
     let first = rows-first (c .args .a) (c .args .b) leaves rows in
     let second = rows-second (c .args .a) (c .args .b) leaves rows in
-    (c .in-Continue-letter .ensures tt ∙ placed .letter letters ∙ ap (λ x. kindLetter kind x x (at letters 1)) first ∙ ap (kindLetter kind (c .args .a) (c .args .a)) second, placed .few)
+    record {
+      letter = c .in-Continue-letter .ensures tt ∙ placed .letter letters ∙ ap (λ x. kindLetter kind x x (at letters 1)) first ∙ ap (kindLetter kind (c .args .a) (c .args .a)) second;
+      after = c .place-over-leaves .last .store;
+      signal = c .in-Continue-place .place .signal;
+      took = placed .took;
+      few = placed .few;
+    }
