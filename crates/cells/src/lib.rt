@@ -1,4 +1,6 @@
 //! Two stores: a table of gates, and a table of NAND cells.
+#![tactic(auto)]
+
 mod cell;
 mod gate_table;
 mod nand;

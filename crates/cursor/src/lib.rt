@@ -1,4 +1,6 @@
 //! A cursor over the words of a text: the next word is looked at, or taken where it is the one that is asked for.
+#![tactic(auto)]
+
 ghost use Rattle.std.specs.Prelude.{◌≡◌, ◌<◌, length, OnOk, ◌==◌};
 ghost use Rattle.grammar.specs.Drafts.{name_of, number_of};
 ghost use Rattle.grammar.specs.Reading.{read_mark, read_keyword, read_name, read_integer, plain};

@@ -2,6 +2,8 @@
 //!
 //! Each layer has an error enum of its own. `Fault` ties each of its cases to the number, the place and the layer
 //! under which the case is told to the user; docs/refusals.md has the table.
+#![tactic(auto)]
+
 ghost use Rattle.std.specs.Prelude.{◌≡◌, Some};
 ghost use Rattle.fault.specs.declared.Layer.{Layer};
 ghost use Rattle.fault.specs.declared.Refusal.{Refusal};

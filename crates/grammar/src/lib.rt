@@ -1,4 +1,6 @@
 //! The grammar of a module, and what reading a module text leaves for the rules: its draft.
+#![tactic(auto)]
+
 ghost use Rattle.grammar.specs.Laws.{GrammarLaws};
 
 mod draft;

@@ -1,6 +1,8 @@
 //! Kinds of level: what a signal carries, one letter for each lane.
 //!
 //! Code above is generic over `Level` and is proved once, lane by lane, against its ghost members alone.
+#![tactic(auto)]
+
 ghost use Rattle.std.specs.Prelude.{◌≡◌, ℕ, ◌<◌, ◌≤◌, MatchResult};
 ghost use Rattle.level.specs.declared.letter.Letter.{Letter};
 ghost use Rattle.level.specs.Letters.{zero_l, one_l, not_l, and_l, or_l, xor_l};

@@ -1,4 +1,6 @@
 //! Shows what each part answers in each store, for every combination of operand letters.
+#![tactic(auto)]
+
 use anyhow::anyhow;
 use cells::{GateTable, NandTable};
 use level::Letter;

@@ -2,6 +2,8 @@
 //!
 //! A store means a rule that takes the letters of 1,088 leaves to a list of letters, one for each signal number, and
 //! a number of free cells. Code above is generic over `Store` and is proved against that meaning alone.
+#![tactic(auto)]
+
 ghost use Rattle.std.specs.Prelude.{◌≡◌, ℕ, ◌+◌, ◌≤◌, List, length, Some, MatchResult};
 ghost use Rattle.level.specs.declared.letter.Letter.{Letter};
 ghost use Rattle.store.specs.declared.part.PartKind.{PartKind};

@@ -1,4 +1,6 @@
 //! Examples of both stores at their limits. A crate of its own, since tests have their crate proved twice.
+#![tactic(auto)]
+
 #[cfg(test)]
 mod tests {
     use cells::{GateTable, NandCell, NandTable, Part};

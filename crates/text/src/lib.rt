@@ -1,5 +1,7 @@
 //! A module text, read: its words and its grammar. The draft that comes out says what the text says, row by row, before any
 //! rule of a module is held against it.
+#![tactic(auto)]
+
 ghost use Rattle.std.specs.Prelude.{◌≡◌, length};
 ghost use Rattle.text.specs.Laws.{OneAnswer};
 ghost use Rattle.text.specs.Parsed.{Parsed, place_of, stop_fault};

@@ -1,4 +1,6 @@
 //! Plays a table of module texts, right and wrong, and prints for each whether it is read or how it is refused.
+#![tactic(auto)]
+
 use fault::Fault;
 use std::alloc::{AllocError, Global};
 use text::parse;

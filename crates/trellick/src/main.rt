@@ -1,4 +1,6 @@
 //! Reads the module text `module.ahpl` of the folder that it is run in, and prints what it read, or why the text is refused.
+#![tactic(auto)]
+
 use fault::Fault;
 use grammar::{Class, Draft, Exit, Item, Leaving, Name};
 use std::alloc::{AllocError, Global};

@@ -1,4 +1,6 @@
 //! The words of a module text.
+#![tactic(auto)]
+
 
 mod token;
 
