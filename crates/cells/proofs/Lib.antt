@@ -1,3 +1,4 @@
+mod Letters
 mod Parts
 mod Patterns
 mod Places

@@ -19,7 +19,8 @@ use Rattle.cells.specs.Cells.{letters_after, letters_of}
 use Rattle.cells.specs.Nands.{nand_l, nand_letter, nand_dangles}
 use Rattle.cells.specs.Patterns.{every_letter, has_first, has_second, is_leaf, last_letter, nand_price, pin_letter, pin_signal, pin_wired, realises, same_letter, stage_cell, stage_letter, stage_wired, stages_after, wired}
 use Rattle.cells.specs.Read.{gate_dangles, gate_letter}
-use Rattle.cells.specs.Letters.{letters_append, letters_length}
+use Rattle.cells.specs.Laws.{letters_length}
+use Rattle.cells.proofs.Letters.{letters_append}
 
 -- the operands that a part has are there
 first_below : (kind : PartKind) (a b n : ℕ) → has_first kind ≡ true → missing kind a b n ≡ false → a < n

@@ -9,7 +9,8 @@ use Rattle.store.specs.Meaning.{Meaning, at}
 use Rattle.store.specs.Parts.{kind_at, missing, part_letter}
 use Rattle.store.specs.Place.{Placed, place_refusal}
 use Rattle.cells.specs.Cells.{Sound, letters_after, letters_of, table_meaning}
-use Rattle.cells.specs.Letters.{letters_append, letters_length}
+use Rattle.cells.specs.Laws.{letters_length}
+use Rattle.cells.proofs.Letters.{letters_append}
 
 -- no cell dangles, with one cell more
 pub sound_push : {C : Type 0} (dangles : ℕ → C → Bool) (cells new : List C) (c : C) → new ≡ cells ++ c ∷ [] → Sound dangles cells → dangles (length cells) c ≡ false → Sound dangles new

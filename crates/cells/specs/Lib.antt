@@ -3,4 +3,4 @@ pub mod Fill
 pub mod Nands
 pub mod Patterns
 pub mod Read
-pub mod Letters
+pub mod Laws

@@ -16,13 +16,15 @@ pub(crate) trait Cell: Copy {
 
     /// The level of the cell, from the levels of the leaves and of the signals before it.
     fn level<L: Level>(self, leaves: &[L], before: &[L]) -> L
-        requires { (dangles (length before.now) self ≡ false) × (1088 ≤ length leaves.now) }
+        requires there { dangles (length before.now) self ≡ false }
+        requires wide { 1088 ≤ length leaves.now }
         ensures { (k : ℕ) → k < L.Level.lanes → L.Level.letters result k ≡ letter self (column L.Level k (take 1088 leaves.now)) (column L.Level k before.now) };
 }
 
 /// The level of a leaf.
 pub(crate) fn leaf<L: Level>(leaves: &[L], n: u32) -> L
-    requires { (n < 1088) × (1088 ≤ length leaves.now) }
+    requires there { n < 1088 }
+    requires wide { 1088 ≤ length leaves.now }
     ensures { (k : ℕ) → k < L.Level.lanes → L.Level.letters result k ≡ at (column L.Level k (take 1088 leaves.now)) n }
 {
     leaves[n as usize]

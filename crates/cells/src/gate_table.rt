@@ -2,8 +2,8 @@
 ghost use Rattle.std.specs.Prelude.{◌≡◌, ℕ, []};
 ghost use Rattle.cells.specs.Cells.{Sound, table_meaning};
 ghost use Rattle.cells.specs.Read.{gate_dangles, gate_letter};
-ghost use Rattle.std.proofs.Common.{arith, rules};
-ghost use Rattle.cells.specs.Letters.{letters_length};
+ghost use Rattle.cells.specs.Laws.{table_sized};
+ghost use Rattle.std.proofs.Common.{rules};
 
 use super::part::{Part, read_part};
 use super::table::CellTable;
@@ -25,9 +25,9 @@ impl Store for GateTable {
 
     ghost price = { λ _. 1 };
 
-    ghost sized = { λ s leaves. omega (arith, letters_length gate_letter leaves s.table.cells.items []) };
+    ghost sized = { λ s. table_sized gate_letter s.table.cells.items s.table.limit };
 
-    ghost bounded = { first_of (Prim.search rules, Prim.grind (arith, Self.row.coded.inj)) };
+    ghost bounded = { Prim.search rules };
 
     fn new(heap: Global, cells: usize) -> Result<GateTable, NewStoreFault> {
         let table = CellTable::new(heap, cells)?;

@@ -4,8 +4,8 @@ ghost use Rattle.cells.specs.Cells.{Sound, table_meaning};
 ghost use Rattle.cells.specs.Nands.{nand_dangles, nand_letter};
 ghost use Rattle.cells.specs.Patterns.{nand_price, stage_cell, wired};
 ghost use Rattle.cells.specs.Read.{gate_dangles};
-ghost use Rattle.std.proofs.Common.{arith, rules};
-ghost use Rattle.cells.specs.Letters.{letters_length};
+ghost use Rattle.cells.specs.Laws.{table_sized};
+ghost use Rattle.std.proofs.Common.{rules};
 
 use super::nand::NandCell;
 use super::part::{Part, read_part};
@@ -49,9 +49,9 @@ impl Store for NandTable {
 
     ghost price = { nand_price };
 
-    ghost sized = { λ s leaves. omega (arith, letters_length nand_letter leaves s.table.cells.items []) };
+    ghost sized = { λ s. table_sized nand_letter s.table.cells.items s.table.limit };
 
-    ghost bounded = { first_of (Prim.search rules, Prim.grind (arith, Self.row.coded.inj)) };
+    ghost bounded = { Prim.search rules };
 
     fn new(heap: Global, cells: usize) -> Result<NandTable, NewStoreFault> {
         let table = CellTable::new(heap, cells)?;

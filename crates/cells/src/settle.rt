@@ -12,7 +12,9 @@ use store::{LEAVES, StoreFault};
 
 // Fills a row for each cell, in order: a cell reads only the rows before its own.
 fn fill<C: Cell, L: Level>(cells: &[C], leaves: &[L], work: &mut [L])
-    requires* { ⌜ Sound C.Cell.dangles cells.now ⌝ ∗ (⌜ 1088 ≤ length leaves.now ⌝ ∗ ⌜ length cells.now ≤ length work.old ⌝) }
+    requires sound { Sound C.Cell.dangles cells.now }
+    requires wide { 1088 ≤ length leaves.now }
+    requires long { length cells.now ≤ length work.old }
     ensures { Filled L.Level C.Cell.letter cells.now leaves.now work.old work.new (length cells.now) }
 {
     for i in 0..cells.len() {

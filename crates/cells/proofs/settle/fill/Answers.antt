@@ -1,5 +1,5 @@
 use Rattle.std.proofs.Common.{arith}
-use Rattle.cells.specs.Letters.{filled_none, filled_more}
+use Rattle.cells.proofs.Letters.{filled_none, filled_more}
 use Rattle.cells.proofs.settle.fill.Goals as goal
 
 pub loop-i-init : goal.loop-i-init

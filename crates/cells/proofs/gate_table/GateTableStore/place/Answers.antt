@@ -6,26 +6,27 @@ use Rattle.store.specs.Meaning.{at}
 use Rattle.store.specs.Parts.{kind_at, missing}
 use Rattle.cells.specs.Cells.{letters_of, table_meaning}
 use Rattle.cells.specs.Read.{gate_dangles, gate_letter, part_of}
-use Rattle.cells.specs.Letters.{letters_length, letters_push}
+use Rattle.cells.specs.Laws.{letters_length}
+use Rattle.cells.proofs.Letters.{letters_push}
 use Rattle.cells.proofs.Parts.{gate_means, read_there}
 use Rattle.cells.proofs.Places.{none_against, placed_by, sound_push}
 use Rattle.cells.proofs.gate_table.GateTableStore.place.Goals as goal
 
-pub returns-in-err-part : goal.returns-in-err-part
-returns-in-err-part c =
+pub returns-in_err-part : goal.returns-in_err-part
+returns-in_err-part c =
     let table = c.args.self.now.table in
-    let p = err_from_is_err_and c.from-residual.result c.from-residual.ensures.1 in
+    let p = err_from_is_err_and c.from_residual.result c.from_residual.ensures.1 in
     rw (p.1, p.2)
-    (c.in-err-part.ensures (λ _. 1) (table_meaning gate_letter (vec_items table.cells) table.limit) (omega arith), refl)
+    (c.in_err-part.ensures (λ _. 1) (table_meaning gate_letter (vec_items table.cells) table.limit) (omega arith), refl)
 
-pub invariant-of-self : goal.invariant-of-self
-invariant-of-self c =
+pub invariant_of-self : goal.invariant_of-self
+invariant_of-self c =
     let old = c.args.self.now in
     let cells = vec_items old.table.cells in
-    let part = c.in-ok-part.part in
-    let read = c.in-ok-part.ensures in
+    let part = c.in_ok-part.part in
+    let read = c.in_ok-part.ensures in
     let there = read_there (kind_at c.args.code) c.args.a c.args.b (length cells) c.len.result part read.1 (omega arith) read.2 in
-    (sound_push gate_dangles cells (vec_items c.push.new.self.cells) part c.push.ensures.items old.sound there, tt)
+    record { sound = sound_push gate_dangles cells (vec_items c.push.new.self.cells) part c.push.ensures.items old.sound there }
 
 pub returns : goal.returns
 returns c =
@@ -33,8 +34,8 @@ returns c =
     let cells = vec_items old.table.cells in
     let new = vec_items c.push.new.self.cells in
     let limit = old.table.limit in
-    let part = c.in-ok-part.part in
-    let read = c.in-ok-part.ensures in
+    let part = c.in_ok-part.part in
+    let read = c.in_ok-part.ensures in
     let code = c.args.code in
     let a = c.args.a in
     let b = c.args.b in

@@ -15,8 +15,8 @@ over-requires c =
 pub push-requires : goal.push-requires
 push-requires c = omega (arith, c.requires.fits, c.loop-stage.invariant.1, c.loop-stage.invariant.2)
 
-pub invariant-of-self : goal.invariant-of-self
-invariant-of-self c =
+pub invariant_of-self : goal.invariant_of-self
+invariant_of-self c =
     let i = c.loop-stage.stage-index in
     let part = c.args.part in
     let cells = vec_items c.args.self.now.table.cells in
@@ -27,7 +27,7 @@ invariant-of-self c =
     let here : nand_dangles (length now) c.over.result ≡ false =
     ap (λ n. nand_dangles n c.over.result) c.loop-stage.invariant.2 ∙ ap (nand_dangles (length cells + i)) (c.over.ensures ∙ ap (λ n. stage_cell part n stage) base)
     ∙ stage_dangles part (length cells) c.requires.there i stage wired in
-    (sound_push nand_dangles now (vec_items c.push.new.self.cells) c.over.result c.push.ensures.items c.loop-stage.self.sound here, tt)
+    record { sound = sound_push nand_dangles now (vec_items c.push.new.self.cells) c.over.result c.push.ensures.items c.loop-stage.self.sound here }
 
 pub loop-stage-preserved : goal.loop-stage-preserved
 loop-stage-preserved c =

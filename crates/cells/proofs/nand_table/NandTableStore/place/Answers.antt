@@ -12,18 +12,18 @@ use Rattle.cells.proofs.Patterns.{pattern_means, some_cells}
 use Rattle.cells.proofs.Places.{none_against, placed_by}
 use Rattle.cells.proofs.nand_table.NandTableStore.place.Goals as goal
 
-pub returns-in-err-part : goal.returns-in-err-part
-returns-in-err-part c =
+pub returns-in_err-part : goal.returns-in_err-part
+returns-in_err-part c =
     let table = c.args.self.now.table in
-    let p = err_from_is_err_and c.from-residual.result c.from-residual.ensures.1 in
+    let p = err_from_is_err_and c.from_residual.result c.from_residual.ensures.1 in
     rw (p.1, p.2)
-    (c.in-err-part.ensures nand_price (table_meaning nand_letter (vec_items table.cells) table.limit) (omega arith), refl)
+    (c.in_err-part.ensures nand_price (table_meaning nand_letter (vec_items table.cells) table.limit) (omega arith), refl)
 
 pub expand-requires : goal.expand-requires
 expand-requires c =
     let cells = vec_items c.args.self.now.table.cells in
-    let part = c.in-ok-part.part in
-    let read = c.in-ok-part.ensures in
+    let part = c.in_ok-part.part in
+    let read = c.in_ok-part.ensures in
     let kind = kind_at c.args.code in
     record {
       wired = c.pattern.ensures.wired;
@@ -38,8 +38,8 @@ returns c =
     let cells = vec_items old.table.cells in
     let new = vec_items c.expand.new.self.table.cells in
     let limit = old.table.limit in
-    let part = c.in-ok-part.part in
-    let read = c.in-ok-part.ensures in
+    let part = c.in_ok-part.part in
+    let read = c.in_ok-part.ensures in
     let code = c.args.code in
     let a = c.args.a in
     let b = c.args.b in

@@ -1,6 +1,6 @@
 use Rattle.std.proofs.Common.{length, vec_items, subst, arith}
 use Rattle.cells.specs.Fill.{Filled}
-use Rattle.cells.specs.Letters.{filled_all}
+use Rattle.cells.proofs.Letters.{filled_all}
 use Rattle.cells.proofs.table.CellTable.settle.Goals as goal
 
 pub returns : goal.returns

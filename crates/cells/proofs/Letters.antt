@@ -1,6 +1,6 @@
 -- Lists of cells of any type, and the letters that they give. Assumes nothing.
 use Rattle.std.specs.Prelude.{◌≡◌, ℕ, ◌+◌, ◌-◌, ◌<◌, ◌≤◌, Bool, false, List, [], ◌∷◌, ◌++◌, length, take, drop, nat_lt, slice_index_or, slice_set}
-use Rattle.std.proofs.Common.{append_assoc, ap, ◌∙◌, add-zero, arith}
+use Rattle.std.proofs.Common.{append_assoc, ap, ◌∙◌, arith}
 use Rattle.std.proofs.Math.Path.{refl, sym}
 use Rattle.std.proofs.Math.Nat.{sub-zero}
 use Rattle.std.proofs.lemmas.Bool.{cond-false, le-ltb, or_from}
@@ -22,12 +22,6 @@ module _ {C : Type 0} (letter : C → List Letter → List Letter → Letter) (l
   pub letters_push : (cells : List C) (c : C) → letters_of letter leaves (cells ++ c ∷ []) ≡ letters_of letter leaves cells ++ letter c leaves (letters_of letter leaves cells) ∷ []
   unfolding letters_after
   letters_push cells c = letters_append cells (c ∷ []) []
-
-  -- a letter for each cell
-  pub letters_length : (cells : List C) (before : List Letter) → length (letters_after letter leaves cells before) ≡ length before + length cells
-  unfolding letters_after
-  letters_length [] before = sym (add-zero (length before))
-  letters_length (c ∷ cells) before = letters_length cells (before ++ letter c leaves before ∷ []) ∙ simp length_push (omega arith)
 
 -- what is past the row that was written is as it was
 rest_more : {X : Type 0} (work old : List X) (i : ℕ) (v : X) → drop i work ≡ drop i old → drop (i + 1) (slice_set work i v) ≡ drop (i + 1) old
