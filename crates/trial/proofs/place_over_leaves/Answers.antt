@@ -13,25 +13,25 @@ pub returns : goal.returns
 returns g c =
     let kind = c.args.kind in
     let means = g.S.Store.means in
-    let p = c.in-ok-a.ensures in
-    let q = c.in-ok-b.ensures in
-    let r = c.in-ok-signal.ensures in
+    let p = c.in_ok-a.ensures in
+    let q = c.in_ok-b.ensures in
+    let r = c.in_ok-signal.ensures in
     let last : kind_at c.code-3.result ≡ kind = ap kind_at c.code-3.ensures ∙ kind_at_lem kind in
     record {
       took = record {
         before = c.place-2.new.self;
-        first = c.first-operand.result;
-        second = c.in-ok-b.b;
-        placed = subst (λ code. Placed g.S.Store.price code c.first-operand.result c.in-ok-b.b (means c.place-2.new.self) (means c.place-3.new.self) c.in-ok-signal.signal) c.code-3.ensures r;
+        first = c.first_operand.result;
+        second = c.in_ok-b.b;
+        placed = subst (λ code. Placed g.S.Store.price code c.first_operand.result c.in_ok-b.b (means c.place-2.new.self) (means c.place-3.new.self) c.in_ok-signal.signal) c.code-3.ensures r;
         taken = omega (arith, r.longer, c.count.ensures, c.count-before.ensures);
       };
       there = r.there;
       letter = λ leaves.
           let signals = (means c.place-2.new.self).signals leaves in
-          let a : at signals c.in-ok-a.a ≡ at leaves 0 = at_stays q leaves c.in-ok-a.a p.there ∙ at_placed p leaves Leaf (ap kind_at c.code.ensures) in
-          let b : at signals c.in-ok-b.b ≡ at leaves 1 = at_placed q leaves Leaf (ap kind_at c.code-2.ensures) in
+          let a : at signals c.in_ok-a.a ≡ at leaves 0 = at_stays q leaves c.in_ok-a.a p.there ∙ at_placed p leaves Leaf (ap kind_at c.code.ensures) in
+          let b : at signals c.in_ok-b.b ≡ at leaves 1 = at_placed q leaves Leaf (ap kind_at c.code-2.ensures) in
           at_placed r leaves kind last
-          ∙ ap (λ n. part_letter kind n c.in-ok-b.b leaves signals) c.first-operand.ensures
-          ∙ over_leaves leaves signals c.in-ok-a.a c.in-ok-b.b a b kind;
+          ∙ ap (λ n. part_letter kind n c.in_ok-b.b leaves signals) c.first_operand.ensures
+          ∙ over_leaves leaves signals c.in_ok-a.a c.in_ok-b.b a b kind;
       few = omega (arith, r.grown, ap g.S.Store.price last, c.count.ensures, c.count-before.ensures);
     }

@@ -15,6 +15,6 @@ returns g c =
     let none : Ternary = record { 0 = Zero } in
     let level = get_or work signal none in
     let below : signal < length work = omega (arith, c.requires.there, c.requires.long, c.settle.auto.work) in
-    c.in-ok-letter.ensures.1
+    c.in_ok-letter.ensures.1
     ∙ at_front ternary 0 work signal level size c.requires.there (omega (arith, c.requires.long, c.settle.auto.work)) (get_or_default work signal none level below)
-    ∙ ap (λ y. at y signal) (c.in-ok-settle.ensures.lanewise 0 (lit< tt))
+    ∙ ap (λ y. at y signal) (c.in_ok-settle.ensures.lanewise 0 (lit< tt))

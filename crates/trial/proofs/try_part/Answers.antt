@@ -11,16 +11,16 @@ use Rattle.trial.proofs.try_part.Goals as goal
 pub returns : goal.returns
 returns g c =
     let kind = c.args.kind in
-    let placed = c.in-ok-place.ensures in
+    let placed = c.in_ok-place.ensures in
     let leaves = c.deref.result.now in
-    let rows : LeafRows c.args.a c.args.b leaves = subst (LeafRows c.args.a c.args.b) (sym c.deref.ensures.value) c.in-ok-leaves.ensures in
+    let rows : LeafRows c.args.a c.args.b leaves = subst (LeafRows c.args.a c.args.b) (sym c.deref.ensures.value) c.in_ok-leaves.ensures in
     let letters : List Letter = column ternary 0 (take 1088 leaves) in
     let first = rows_first c.args.a c.args.b leaves rows in
     let second = rows_second c.args.a c.args.b leaves rows in
     record {
-      letter = c.in-ok-letter.ensures ∙ placed.letter letters ∙ ap (λ x. kind_letter kind x x (at letters 1)) first ∙ ap (kind_letter kind c.args.a c.args.a) second;
-      after = c.place-over-leaves.new.store;
-      signal = c.in-ok-place.place.signal;
+      letter = c.in_ok-letter.ensures ∙ placed.letter letters ∙ ap (λ x. kind_letter kind x x (at letters 1)) first ∙ ap (kind_letter kind c.args.a c.args.a) second;
+      after = c.place_over_leaves.new.store;
+      signal = c.in_ok-place.place.signal;
       took = placed.took;
       few = placed.few;
     }
