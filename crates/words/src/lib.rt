@@ -1,7 +1,6 @@
 //! The words of a module text.
 #![tactic(auto)]
 
-
 mod token;
 
 pub use token::{Keyword, Kind, Sign, Token};

@@ -8,7 +8,7 @@ use Rattle.cursor.proofs.Cursor.integer.Goals as goal
 pub returns : goal.returns
 returns c =
     let kind : kind_at c.args.self.now.rest.now ≡ Some (Integer c.in-Some-Integer.value) = (let v = c.in-Some-Integer.ensures in cc) in
-    let took = c.in-ok-place.ensures in
+    let took = c.in_ok-place.ensures in
     record {
       told = (integer_at took.0.place c.in-Some-Integer.value, takes_integer _ _ took.0 _ took.1 kind, ap (λ p. record { place = p; value = c.in-Some-Integer.value }) took.2);
       forward = (let h = ap length took.1 in omega arith);

@@ -4,9 +4,9 @@ use Rattle.cursor.proofs.Cursor.keyword.Goals as goal
 
 pub returns : goal.returns
 returns c = record {
-  told = told_keyword _ _ _ c.advance.ensures c.args.keyword (sym c.if-not-at-keyword.ensures);
+  told = told_keyword _ _ _ c.advance.ensures c.args.keyword (sym c.if-not-at_keyword.ensures);
   forward = goes_on _ _ _ c.advance.ensures;
 }
 
-pub returns-then-not-at-keyword : goal.returns-then-not-at-keyword
-returns-then-not-at-keyword c = record { told = leaves_keyword c.args.keyword _ (sym c.if-not-at-keyword.ensures); forward = tt }
+pub returns-then-not-at_keyword : goal.returns-then-not-at_keyword
+returns-then-not-at_keyword c = record { told = leaves_keyword c.args.keyword _ (sym c.if-not-at_keyword.ensures); forward = tt }

@@ -8,7 +8,7 @@ use Rattle.cursor.proofs.Cursor.name.Goals as goal
 pub returns : goal.returns
 returns c =
     let kind : kind_at c.args.self.now.rest.now ≡ Some (Name c.in-Some-Name.len) = (let v = c.in-Some-Name.ensures in cc) in
-    let took = c.in-ok-place.ensures in
+    let took = c.in_ok-place.ensures in
     record {
       told = (name_at took.0.place c.in-Some-Name.len, takes_name _ _ took.0 _ took.1 kind, ap (λ p. record { place = p; len = c.in-Some-Name.len }) took.2);
       forward = (let h = ap length took.1 in omega arith);

@@ -4,9 +4,9 @@ use Rattle.cursor.proofs.Cursor.sign.Goals as goal
 
 pub returns : goal.returns
 returns c = record {
-  told = told_mark _ _ _ c.advance.ensures c.args.sign (sym c.if-not-at-sign.ensures);
+  told = told_mark _ _ _ c.advance.ensures c.args.sign (sym c.if-not-at_sign.ensures);
   forward = goes_on _ _ _ c.advance.ensures;
 }
 
-pub returns-then-not-at-sign : goal.returns-then-not-at-sign
-returns-then-not-at-sign c = record { told = leaves_mark c.args.sign _ (sym c.if-not-at-sign.ensures); forward = tt }
+pub returns-then-not-at_sign : goal.returns-then-not-at_sign
+returns-then-not-at_sign c = record { told = leaves_mark c.args.sign _ (sym c.if-not-at_sign.ensures); forward = tt }
