@@ -1,10 +1,10 @@
 -- Lists of cells of any type, and the letters that they give. Assumes nothing.
-use Rattle.std.specs.Prelude.{◌≡◌, ℕ, ◌+◌, ◌-◌, ◌<◌, ◌≤◌, Bool, false, List, [], ◌∷◌, ◌++◌, length, take, drop, nat_lt, slice_index_or, slice_set}
-use Rattle.std.proofs.Common.{append_assoc, ap, ◌∙◌, arith}
+use Rattle.std.specs.Prelude.{◌≡◌, ℕ, ◌+◌, ◌-◌, ◌<◌, ◌≤◌, List, [], ◌∷◌, ◌++◌, length, take, drop, nat_lt, slice_index_or, slice_set}
+use Rattle.std.proofs.Common.{ap, ◌∙◌, arith}
 use Rattle.std.proofs.Math.Path.{refl, sym}
 use Rattle.std.proofs.Math.Nat.{sub-zero}
 use Rattle.std.proofs.lemmas.Bool.{cond-false, le-ltb, or_from}
-use Rattle.std.proofs.lemmas.List.{take_all, length_push, map_push, take_more, take_more_set, length-set, drop-set-lt, drop-drop}
+use Rattle.std.proofs.lemmas.List.{take_all, map_push, take_more, take_more_set, length-set, drop-set-lt, drop-drop}
 use Rattle.level.specs.declared.letter.Letter.{Letter}
 use Rattle.level.specs.declared.Level.{Ghosts}
 use Rattle.store.specs.Settle.{Settled, column}

@@ -1,5 +1,5 @@
 -- Patterns of NAND cells, laid over the operands of a part. Assumes nothing.
-use Rattle.std.proofs.Common.{◌≡◌, ℕ, zero, suc, ◌+◌, ◌-◌, ◌<◌, ◌≤◌, Bool, true, false, ◌&&◌, ◌||◌, eqb, ltb, leb, List, [], ◌∷◌, ◌++◌, map, length, get_or, take, sym, refl, ap, ◌∙◌, subst, append_assoc, append-nil, arith, lit<}
+use Rattle.std.proofs.Common.{◌≡◌, ℕ, zero, suc, ◌+◌, ◌-◌, ◌<◌, Bool, true, false, leb, List, [], ◌∷◌, ◌++◌, map, length, get_or, take, sym, refl, ap, ◌∙◌, subst, append_assoc, append-nil, arith, lit<}
 use Rattle.std.proofs.lemmas.List.{get_or_append_left, get_or-append_right, length_push, map_push, take_more}
 use Rattle.std.proofs.lemmas.Bool.{and_parts, leb-false, lt-leb, ltb-true, or_from, or_parts}
 use Rattle.level.specs.declared.letter.Letter.{Letter}

@@ -1,5 +1,5 @@
 -- Tables that grow by some cells. Assumes nothing.
-use Rattle.std.proofs.Common.{◌≡◌, ℕ, ◌+◌, ◌-◌, ◌<◌, ◌≤◌, Bool, false, cond, ltb, List, [], ◌∷◌, ◌++◌, length, get_or, take, None, sym, refl, ap, ◌∙◌, arith, below_more}
+use Rattle.std.proofs.Common.{◌≡◌, ℕ, ◌+◌, ◌<◌, ◌≤◌, Bool, false, ltb, List, [], ◌∷◌, ◌++◌, length, get_or, take, None, sym, refl, ap, ◌∙◌, arith, below_more}
 use mathlib.Core.Path.{subst⁻¹}
 use Rattle.std.proofs.lemmas.List.{get_or_push, get_or_append_left, length_push, length-append, take_all, take_at, take-take}
 use Rattle.std.proofs.lemmas.Bool.{cond-false, le-ltb}

@@ -1,15 +1,15 @@
 -- What the sort of the next word says of reading a single word. Assumes nothing.
-use Rattle.std.proofs.Common.{◌≡◌, ℕ, ◌+◌, ◌-◌, ◌<◌, ◌≤◌, Bool, true, false, cond, eqb, List, [], ◌∷◌, length, get_or, take, drop, IfOk, Some, None, Ok, Err, Option, Result, sym, refl, ap, ◌∙◌, subst, arith, eq-eqb, ne_eqb, eqb-true}
+use Rattle.std.proofs.Common.{◌≡◌, ℕ, ◌+◌, ◌-◌, ◌<◌, ◌≤◌, Bool, true, false, eqb, List, [], ◌∷◌, length, get_or, take, drop, IfOk, Some, Ok, Err, Result, sym, refl, ap, ◌∙◌, arith, eq-eqb, ne_eqb, eqb-true}
 use borrow.Author.Tests.{eqb-false}
 use Rattle.std.proofs.lemmas.List.{take_rest}
 use Rattle.std.proofs.lemmas.Bool.{cond-true, cond-false}
-use Rattle.words.specs.Codes.{sign_code, keyword_code, same_sign, same_keyword}
+use Rattle.words.specs.Codes.{sign_code, keyword_code}
 use Rattle.words.specs.declared.token.Sign.{Sign}
 use Rattle.words.specs.declared.token.Keyword.{Keyword}
 use Rattle.words.specs.declared.token.Kind.{Kind}
 use Rattle.words.specs.declared.token.Kind.TheVariants.{Reserved, Name, Integer, Mark}
 use Rattle.words.specs.declared.token.Token.{Token}
-use Rattle.grammar.specs.Sorts.{sort, kind_sort, name_sort, integer_sort, keyword_sort, sign_sort}
+use Rattle.grammar.specs.Sorts.{sort, kind_sort, keyword_sort, sign_sort}
 use Rattle.grammar.specs.Trees.{mark_at, keyword_at, name_at, integer_at}
 use Rattle.grammar.specs.Reading.{got, wrong, mark_of, read_mark, keyword_of, read_keyword, name_of, read_name, integer_of, read_integer}
 use Rattle.grammar.proofs.Checks.{sign_below, keyword_below}

@@ -1,16 +1,16 @@
 -- How what a rule comes to follows from what its parts come to. Assumes nothing.
-use Rattle.std.proofs.Common.{◌≡◌, ℕ, zero, suc, ◌+◌, ◌-◌, ◌<◌, ◌≤◌, Bool, true, false, cond, ◌&&◌, ◌||◌, eqb, List, [], ◌∷◌, length, Ok, Err, Result, sym, refl, ap, ◌∙◌, subst, arith}
+use Rattle.std.proofs.Common.{◌≡◌, ℕ, zero, suc, ◌-◌, ◌<◌, ◌≤◌, Bool, true, false, ◌&&◌, ◌||◌, List, length, sym, refl, ap, ◌∙◌, arith}
 use Rattle.std.proofs.lemmas.Bool.{cond-true, cond-false}
 use Rattle.words.specs.declared.token.Sign.{Sign}
 use Rattle.words.specs.declared.token.Keyword.{Keyword}
 use Rattle.words.specs.declared.token.Token.{Token}
-use Rattle.grammar.specs.Rules.{Part, Rule, mark, keyword, name, integer, ◌then◌, maybe, many, either, fork, series, part, inside}
-use Rattle.grammar.specs.Sorts.{sort, starts, nullable, opens, sign_sort}
-use Rattle.grammar.specs.Trees.{Tree, mark_at, both, none, some, end, more, left, right, one, other, last, closing, next, nested}
-use Rattle.grammar.specs.Reading.{Out, got, wrong, deep, and_then, map_out, read_mark, read_keyword, read_name, read_integer, read_many, read_series, series_on, plain, read_with, read_part, read}
+use Rattle.grammar.specs.Rules.{Part, Rule, mark, keyword, name, integer, ◌then◌, maybe, many, either, fork, part, inside}
+use Rattle.grammar.specs.Sorts.{sort, starts, nullable, opens}
+use Rattle.grammar.specs.Trees.{Tree, both, none, some, end, more, left, right, one, other, nested}
+use Rattle.grammar.specs.Reading.{Out, got, wrong, deep, and_then, map_out, read_mark, read_keyword, read_name, read_integer, read_many, plain, read_with, read_part, read}
 use Rattle.cursor.specs.declared.stop.Stop.{Stop}
 use Rattle.cursor.specs.declared.stop.Stop.TheVariants.{Unexpected, TooDeep, OutOfMemory}
-use Rattle.cursor.specs.Told.{Stopped, Told, Wrote}
+use Rattle.cursor.specs.Told.{Stopped}
 
 -- where each refusal of o is one of q
 pub stop_by : {A B : Type 0} (o : Out A) (q : Out B) → ((ws : List Token) → o ≡ wrong ws → q ≡ wrong ws) → ((ws : List Token) → o ≡ deep ws → q ≡ deep ws) → (e : Stop) (rest : List Token) → Stopped o e rest → Stopped q e rest

@@ -8,7 +8,6 @@ use Rattle.grammar.specs.declared.draft.Class.TheVariants.{Input, Output, Memory
 use Rattle.grammar.specs.declared.draft.Item.{Item}
 use Rattle.grammar.specs.declared.draft.Subscript.{Subscript}
 use Rattle.grammar.specs.declared.draft.Reference.{Reference}
-use Rattle.grammar.specs.declared.draft.Gate.{Gate}
 use Rattle.grammar.specs.declared.draft.Gate.TheVariants.{And as AndGate, Or as OrGate, Xor as XorGate}
 use Rattle.grammar.specs.declared.draft.Form.{Form}
 use Rattle.grammar.specs.declared.draft.Form.TheVariants.{Bits, Literal, Sized, Comma as CommaForm, Join, Not as NotForm, Reduce}
@@ -27,7 +26,7 @@ use Rattle.grammar.specs.declared.draft.Terms.{Terms}
 use Rattle.grammar.specs.declared.draft.Rows.{Rows}
 use Rattle.grammar.specs.declared.draft.Draft.{Draft}
 use Rattle.grammar.specs.Rules.{group, signed, mark, name, integer, ◌then◌, maybe, many, series, list_of, integers, item, ref, primary, prefix_sign, prefix, and, xor, or, expr, targets, conn, stmt, branch, action, step, class, decl, unit}
-use Rattle.grammar.specs.Trees.{Tree, mark_at, keyword_at, name_at, integer_at, both, none, some, end, more, left, right, one, other, last, closing, next, nested}
+use Rattle.grammar.specs.Trees.{Tree, mark_at, name_at, integer_at, both, none, some, end, more, left, right, one, other, last, closing, next, nested}
 
 -- the rows of expressions, as lists
 pub record TermLists : Type 0 where

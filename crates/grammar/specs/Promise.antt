@@ -1,7 +1,7 @@
 -- What is promised of the words of a text: whether they are a module's, and which word is the first wrong one. Assumes nothing.
 use Rattle.std.specs.Prelude.{◌≡◌, ℕ, ◌≤◌, List, [], ◌∷◌, ◌++◌}
 use Rattle.words.specs.declared.token.Token.{Token}
-use Rattle.grammar.specs.Rules.{Rule, unit}
+use Rattle.grammar.specs.Rules.{unit}
 use Rattle.grammar.specs.Trees.{Tree, words, depth}
 
 -- how deep expressions may nest

@@ -1,6 +1,6 @@
 -- How a rule is read from the front of a list of words, by the next word and at a fork by the next two.
 -- The contracts of the single readers cite it; what is promised of a whole text (Promise) does not rest on it. Assumes nothing.
-use Rattle.std.specs.Prelude.{ℕ, zero, suc, Bool, true, false, cond, not, ◌&&◌, List, [], ◌∷◌, length, ◌==◌}
+use Rattle.std.specs.Prelude.{ℕ, zero, suc, Bool, cond, not, ◌&&◌, List, [], ◌∷◌, length, ◌==◌}
 use Rattle.words.specs.Codes.{same_sign, same_keyword}
 use Rattle.words.specs.declared.token.Sign.{Sign}
 use Rattle.words.specs.declared.token.Sign.TheVariants.{Dollar}

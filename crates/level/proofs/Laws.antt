@@ -5,7 +5,7 @@ use Rattle.level.specs.declared.letter.Letter.{Letter}
 use Rattle.level.specs.declared.letter.Letter.TheVariants.{Zero, One, Unknown}
 use Rattle.level.specs.Letters.{zero_l, one_l, not_l, and_l, or_l, xor_l}
 use Rattle.level.specs.Order.{MayBecome}
-use Rattle.level.specs.Laws.{Join, Keeps, LetterLaws}
+use Rattle.level.specs.Laws.{Keeps, LetterLaws}
 
 -- what holds of 0, 1 and X holds of every letter
 pub by_letter : (P : Letter → Type 0) → P Zero → P One → P Unknown → (a : Letter) → P a

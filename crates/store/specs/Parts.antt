@@ -1,5 +1,5 @@
 -- The parts: their codes, their letters, and what they need. Assumes nothing.
-use Rattle.std.specs.Prelude.{ℕ, Bool, true, false, cond, ◌||◌, List, [], ◌∷◌, Some, None, Option, nat_le, nat_lt, slice_index_or}
+use Rattle.std.specs.Prelude.{ℕ, Bool, false, cond, ◌||◌, List, [], ◌∷◌, Some, None, Option, nat_le, nat_lt, slice_index_or}
 use Rattle.level.specs.declared.letter.Letter.{Letter}
 use Rattle.level.specs.Letters.{zero_l, one_l, not_l, and_l, or_l, xor_l}
 use Rattle.store.specs.declared.part.PartKind.{PartKind}

@@ -1,11 +1,10 @@
 use Rattle.std.proofs.Common.{◌≡◌, ap, ◌∙◌, subst, arith}
 use Rattle.store.specs.declared.part.PartKind.TheVariants.{Leaf}
 use Rattle.store.specs.Meaning.{at}
-use Rattle.store.specs.Parts.{code_of, kind_at, part_letter}
+use Rattle.store.specs.Parts.{kind_at, part_letter}
 use Rattle.store.specs.Place.{Placed}
 use Rattle.store.proofs.Laws.{kind_at_lem}
 use Rattle.store.proofs.Signals.{at_placed, at_stays}
-use Rattle.trial.specs.Trials.{first_of}
 use Rattle.trial.proofs.Leaves.{over_leaves}
 use Rattle.trial.proofs.place_over_leaves.Goals as goal
 

@@ -1,4 +1,4 @@
-use Rattle.std.proofs.Common.{◌≡◌, List, take, vec_items, sym, ap, ◌∙◌, subst}
+use Rattle.std.proofs.Common.{List, take, sym, ap, ◌∙◌, subst}
 use Rattle.level.specs.declared.letter.Letter.{Letter}
 use Rattle.level.specs.contracts.ternary.TernaryLevel.TheImpl.{ghosts as ternary}
 use Rattle.store.specs.Meaning.{at}

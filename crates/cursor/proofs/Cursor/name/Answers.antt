@@ -1,4 +1,4 @@
-use Rattle.std.proofs.Common.{◌≡◌, length, Some, refl, ap, arith}
+use Rattle.std.proofs.Common.{◌≡◌, length, Some, ap, arith}
 use Rattle.words.specs.declared.token.Kind.TheVariants.{Name}
 use Rattle.grammar.specs.Trees.{name_at}
 use Rattle.cursor.specs.Told.{kind_at}

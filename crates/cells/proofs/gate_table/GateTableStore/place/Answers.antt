@@ -1,11 +1,11 @@
-use Rattle.std.proofs.Common.{◌≡◌, ◌+◌, false, [], ◌∷◌, length, vec_items, vec_len, sym, refl, ap, ◌∙◌, arith}
+use Rattle.std.proofs.Common.{◌≡◌, ◌+◌, false, [], ◌∷◌, length, vec_items, refl, ap, ◌∙◌, arith}
 use Rattle.std.proofs.lemmas.List.{get_or_push, length_push}
 use Rattle.std.proofs.lemmas.Result.{err_from_is_err_and}
 use Rattle.level.specs.declared.letter.Letter.TheVariants.{Unknown}
 use Rattle.store.specs.Meaning.{at}
 use Rattle.store.specs.Parts.{kind_at, missing}
 use Rattle.cells.specs.Cells.{letters_of, table_meaning}
-use Rattle.cells.specs.Read.{gate_dangles, gate_letter, part_of}
+use Rattle.cells.specs.Read.{gate_dangles, gate_letter}
 use Rattle.cells.specs.Laws.{letters_length}
 use Rattle.cells.proofs.Letters.{letters_push}
 use Rattle.cells.proofs.Parts.{gate_means, read_there}

@@ -1,4 +1,4 @@
-use Rattle.std.proofs.Common.{◌≡◌, ◌+◌, ◌-◌, ◌<◌, false, map, length, vec_items, sym, refl, ap, ◌∙◌, arith}
+use Rattle.std.proofs.Common.{◌≡◌, ◌+◌, ◌-◌, false, map, length, vec_items, refl, ap, ◌∙◌, arith}
 use Rattle.std.proofs.lemmas.List.{length-append, length-map}
 use Rattle.std.proofs.lemmas.Result.{err_from_is_err_and}
 use Rattle.store.specs.Meaning.{at}
@@ -6,7 +6,7 @@ use Rattle.store.specs.Parts.{kind_at, missing}
 use Rattle.cells.specs.Cells.{letters_of, table_meaning}
 use Rattle.cells.specs.Nands.{nand_letter}
 use Rattle.cells.specs.Patterns.{nand_price, stage_cell}
-use Rattle.cells.specs.Read.{gate_dangles, gate_letter, part_of}
+use Rattle.cells.specs.Read.{gate_dangles, gate_letter}
 use Rattle.cells.proofs.Parts.{gate_means, read_there}
 use Rattle.cells.proofs.Patterns.{pattern_means, some_cells}
 use Rattle.cells.proofs.Places.{none_against, placed_by}
