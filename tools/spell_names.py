@@ -1,7 +1,7 @@
 #!/usr/bin/env python3
 """Respells this repository's own definitions, lemmas, labels and constructors in snake case, once, after the kit's port.py.
 
-usage: python3 tools/spell_names.py     at the top of the repository; files are rewritten in place
+usage: python3 tools/spell_names.py     at the top of the repository; files are rewritten in place, and a second run is refused
 
 Functions of src/, strings, inputs and outputs keep their names, and so do the names that Rattle makes of goals and steps
 (`returns-..`, `loop-..`, `in_ok-..`). Where a lemma would get the name of the function that it speaks of, it gets `_lem`.
@@ -84,6 +84,8 @@ WORD = re.compile(r"[^\s(){}.,;:«»⌜⌝\[\]|`]+")
 
 
 def main():
+    if any("same_sign_lem" in path.read_text(encoding="utf-8") for path in pathlib.Path("crates").rglob("*.antt")):
+        raise SystemExit("spell_names: this repository is respelled already")
     table = dict(pair.split(":") for pair in NAMES.split())
 
     def respell(text):

@@ -1,5 +1,4 @@
 //! The gate table: a cell for each part.
-ghost use Rattle.std.specs.Prelude.{◌≡◌, ℕ, []};
 ghost use Rattle.cells.specs.Cells.{Sound, table_meaning};
 ghost use Rattle.cells.specs.Read.{gate_dangles, gate_letter};
 ghost use Rattle.cells.specs.Laws.{table_sized};

@@ -1,5 +1,5 @@
 //! The NAND table: each part becomes the cells of its pattern.
-ghost use Rattle.std.specs.Prelude.{◌≡◌, ℕ, ◌+◌, ◌<◌, ◌≤◌, true, false, [], ◌++◌, map, length};
+ghost use Rattle.std.specs.Prelude.{◌≡◌, ◌+◌, ◌<◌, ◌≤◌, true, false, ◌++◌, map, length};
 ghost use Rattle.cells.specs.Cells.{Sound, table_meaning};
 ghost use Rattle.cells.specs.Nands.{nand_dangles, nand_letter};
 ghost use Rattle.cells.specs.Patterns.{nand_price, stage_cell, wired};

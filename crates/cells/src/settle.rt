@@ -1,5 +1,5 @@
 //! Settling a table of cells, of whatever type, in one walk.
-ghost use Rattle.std.specs.Prelude.{◌≡◌, ℕ, ◌<◌, ◌≤◌, length, Some, MatchResult};
+ghost use Rattle.std.specs.Prelude.{◌≡◌, ◌<◌, ◌≤◌, length, Some, MatchResult};
 ghost use Rattle.store.specs.Faults.{store_told};
 ghost use Rattle.store.specs.Settle.{Settled, settle_refusal};
 ghost use Rattle.cells.specs.Cells.{Sound, table_meaning};

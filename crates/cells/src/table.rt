@@ -1,5 +1,5 @@
 //! A table of cells of one type, with room for so many: what both stores are made of.
-ghost use Rattle.std.specs.Prelude.{◌≡◌, ℕ, ◌+◌, ◌-◌, ◌<◌, ◌≤◌, false, [], ◌∷◌, ◌++◌, vec_len, vec_capacity, MatchResult};
+ghost use Rattle.std.specs.Prelude.{◌≡◌, ◌+◌, ◌-◌, ◌<◌, ◌≤◌, [], ◌∷◌, ◌++◌, vec_len, vec_capacity, MatchResult};
 ghost use Rattle.store.specs.Faults.{NotMade};
 
 use std::alloc::Global;

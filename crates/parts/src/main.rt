@@ -4,9 +4,8 @@
 use anyhow::anyhow;
 use cells::{GateTable, NandTable};
 use level::Letter;
-use std::alloc::Global;
 use store::{PartKind, Store};
-use trial::{Trial, TrialFault, rule_letter, try_part};
+use trial::{Trial, rule_letter, try_part};
 
 /// How many lines were printed, and in how many the store's letter was the rules'.
 #[derive(Drop)]

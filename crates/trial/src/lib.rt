@@ -1,7 +1,7 @@
 //! One part on trial: placed over two leaves in a store of any make, settled, and looked at.
 #![tactic(auto)]
 
-ghost use Rattle.std.specs.Prelude.{◌≡◌, ℕ, ◌+◌, ◌<◌, ◌≤◌, List, length, take, IfOk, vec_len, MatchResult};
+ghost use Rattle.std.specs.Prelude.{◌≡◌, ◌+◌, ◌<◌, ◌≤◌, length, take, IfOk, MatchResult};
 ghost use Rattle.level.specs.declared.letter.Letter.{Letter};
 ghost use Rattle.level.specs.contracts.ternary.TernaryLevel.TheImpl.{ghosts as ternary};
 ghost use Rattle.store.specs.declared.faults.StoreFault.TheVariants.{Full};
