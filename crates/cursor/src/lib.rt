@@ -1,7 +1,7 @@
 //! A cursor over the words of a text: the next word is looked at, or taken where it is the one that is asked for.
 #![tactic(auto)]
 
-ghost use Rattle.std.specs.Prelude.{◌≡◌, ◌<◌, length, OnOk, ◌==◌};
+ghost use Rattle.std.specs.Prelude.{◌≡◌, ◌<◌, length, IfErr, OnOk, ◌==◌};
 ghost use Rattle.grammar.specs.Drafts.{name_of, number_of};
 ghost use Rattle.grammar.specs.Reading.{read_mark, read_keyword, read_name, read_integer, plain};
 ghost use Rattle.words.specs.declared.token.Sign.TheVariants.{Dollar};
@@ -114,6 +114,7 @@ impl<'a> Cursor<'a> {
     pub fn sign(&mut self, sign: Sign) -> Result<usize, Stop>
         ensures told { Told (read_mark sign self.old.rest.now) mark_place result self.new.rest.now }
         ensures forward { OnOk result (length self.new.rest.now < length self.old.rest.now) }
+        ensures stops { IfErr result (λ e. e ≡ Stop.Unexpected) }
     {
         if !self.at_sign(sign) {
             return Err(Stop::Unexpected);
@@ -125,6 +126,7 @@ impl<'a> Cursor<'a> {
     pub fn keyword(&mut self, keyword: Keyword) -> Result<usize, Stop>
         ensures told { Told (read_keyword keyword self.old.rest.now) keyword_place result self.new.rest.now }
         ensures forward { OnOk result (length self.new.rest.now < length self.old.rest.now) }
+        ensures stops { IfErr result (λ e. e ≡ Stop.Unexpected) }
     {
         if !self.at_keyword(keyword) {
             return Err(Stop::Unexpected);
@@ -136,6 +138,7 @@ impl<'a> Cursor<'a> {
     pub fn name(&mut self) -> Result<Name, Stop>
         ensures told { Told (read_name self.old.rest.now) name_of result self.new.rest.now }
         ensures forward { OnOk result (length self.new.rest.now < length self.old.rest.now) }
+        ensures stops { IfErr result (λ e. e ≡ Stop.Unexpected) }
     {
         let Some(Kind::Name(len)) = first_kind(self.rest) else {
             return Err(Stop::Unexpected);
@@ -148,6 +151,7 @@ impl<'a> Cursor<'a> {
     pub fn integer(&mut self) -> Result<Number, Stop>
         ensures told { Told (read_integer self.old.rest.now) number_of result self.new.rest.now }
         ensures forward { OnOk result (length self.new.rest.now < length self.old.rest.now) }
+        ensures stops { IfErr result (λ e. e ≡ Stop.Unexpected) }
     {
         let Some(Kind::Integer(value)) = first_kind(self.rest) else {
             return Err(Stop::Unexpected);

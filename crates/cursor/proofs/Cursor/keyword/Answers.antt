@@ -2,11 +2,11 @@ use Rattle.std.proofs.Common.{sym}
 use Rattle.cursor.proofs.Sorting.{told_keyword, leaves_keyword, goes_on}
 use Rattle.cursor.proofs.Cursor.keyword.Goals as goal
 
-pub returns : goal.returns
-returns c = record {
-  told = told_keyword _ _ _ c.advance.ensures c.args.keyword (sym c.if-not-at_keyword.ensures);
-  forward = goes_on _ _ _ c.advance.ensures;
-}
+pub returns-clause-told : goal.returns-clause-told
+returns-clause-told c = told_keyword _ _ _ c.advance.ensures c.args.keyword (sym c.if-not-at_keyword.ensures)
 
-pub returns-then-not-at_keyword : goal.returns-then-not-at_keyword
-returns-then-not-at_keyword c = record { told = leaves_keyword c.args.keyword _ (sym c.if-not-at_keyword.ensures); forward = tt }
+pub returns-clause-forward : goal.returns-clause-forward
+returns-clause-forward c = goes_on _ _ _ c.advance.ensures
+
+pub returns-then-not-at_keyword-clause-told : goal.returns-then-not-at_keyword-clause-told
+returns-then-not-at_keyword-clause-told c = leaves_keyword c.args.keyword _ (sym c.if-not-at_keyword.ensures)
