@@ -14,5 +14,5 @@ show 5 'clauses that stand three times or more in a crate' "$(for c in crates/*/
 show 5 'functions over a kind and two letters, a code or kind and two numbers, a table and its size' "$(grep -nzoE 'fn [a-z_]+(<[^>]*>)?\([^)]*(kind: PartKind,\s*a: |code: u8, a: |leaves: &\[L\], (work|before))[^)]*\)' $src | tr '\0' '\n' | grep -E 'fn [a-z_]+')"
 show 6 'lengths beside buffers, rows by number, operands that may be unused' "$(grep -nE '^ *(pub(\([a-z]+\))? )?(limit|first|second|node|driven|last_target|value|step|statement|signal): (u32|usize),' $src)"
 show 7 'function pointers, dyn, and matches on which step to run' "$(grep -nE '\bfn\(|\bdyn ' $src)"
-show 8 'answers in proofs/' "$(grep -nE '^pub [a-z_0-9A-Z-]+ : goal\.' $(find crates -path '*/proofs/*/Answers.antt'))"
+show 8 'answers in proofs/' "$(grep -nE '^pub [a-z_0-9A-Z-]+ : goal\.' $(find crates -path '*/out' -prune -o -path '*/proofs/*/Answers.antt' -print))"
 exit 0

@@ -1,14 +1,12 @@
 -- Lists of cells of any type, and the letters that they give. Assumes nothing.
-use Rattle.std.specs.Prelude.{◌≡◌, ℕ, ◌+◌, ◌-◌, ◌<◌, ◌≤◌, List, [], ◌∷◌, ◌++◌, length, take, drop, nat_lt, slice_index_or, slice_set}
+use Rattle.std.specs.Prelude.{◌≡◌, ℕ, ◌+◌, ◌<◌, List, [], ◌∷◌, ◌++◌, length, take, drop, slice_index_or, slice_set}
 use Rattle.std.proofs.Common.{ap, ◌∙◌, arith}
 use Rattle.std.proofs.Math.Path.{refl, sym}
-use Rattle.std.proofs.Math.Nat.{sub-zero}
-use Rattle.std.proofs.lemmas.Bool.{cond-false, le-ltb, or_from}
-use Rattle.std.proofs.lemmas.List.{take_all, map_push, take_more, take_more_set, length-set, drop-set-lt, drop-drop}
+use Rattle.std.proofs.lemmas.List.{map_push, take_more, take_more_set, length-set, drop-set-lt, drop-drop}
 use Rattle.level.specs.declared.letter.Letter.{Letter}
 use Rattle.level.specs.declared.Level.{Ghosts}
-use Rattle.store.specs.Settle.{Settled, column}
-use Rattle.cells.specs.Cells.{letters_after, letters_of, table_meaning}
+use Rattle.store.specs.Settle.{column}
+use Rattle.cells.specs.Cells.{letters_after, letters_of}
 use Rattle.cells.specs.Fill.{Filled}
 
 module _ {C : Type 0} (letter : C → List Letter → List Letter → Letter) (leaves : List Letter) where
@@ -28,30 +26,22 @@ rest_more : {X : Type 0} (work old : List X) (i : ℕ) (v : X) → drop i work �
 rest_more work old i v e =
     drop-set-lt (i + 1) work i v (omega arith) ∙ sym (drop-drop 1 i work) ∙ ap (drop 1) e ∙ drop-drop 1 i old
 
-module _ {X C : Type 0} (L : Ghosts X) (letter : C → List Letter → List Letter → Letter) (cells : List C) (leaves old : List X) where
-  pub filled_none : Filled L letter cells leaves old old 0
+module _ {X C : Type 0} (L : Ghosts X) (letter : C → List Letter → List Letter → Letter) (cells : List C) where
+  pub filled_none : (leaves old : List X) → Filled L letter cells leaves old old 0
   unfolding letters_after
-  filled_none = record { lanewise = λ k h. refl; rest = refl; long = refl }
+  filled_none leaves old = record { lanewise = λ k h. refl; rest = refl; long = refl }
 
   -- one row more
-  pub filled_more : (work : List X) (i : ℕ) (v : X) (c : C) → i < length cells → i < length work → c ≡ slice_index_or cells i c → Filled L letter cells leaves old work i → ((k : ℕ) → k < L.lanes → L.letters v k ≡ letter c (column L k (take 1088 leaves)) (column L k (take (i - 0) work))) → Filled L letter cells leaves old (slice_set work i v) (i + 1)
-  filled_more work i v c hc hw at_i f level = record {
+  pub filled_more : (leaves old work : List X) (i : ℕ) (v : X) (c : C) → i < length cells → i < length work → c ≡ slice_index_or cells i c → Filled L letter cells leaves old work i → ((k : ℕ) → k < L.LANES → L.letters v k ≡ letter c (column L k leaves) (column L k (take i work))) → Filled L letter cells leaves old (slice_set work i v) (i + 1)
+  filled_more leaves old work i v c hc hw at_i f level = record {
     lanewise = λ k h.
-        let x : List Letter = column L k (take 1088 leaves) in
+        let x : List Letter = column L k leaves in
         let before : List Letter = letters_of letter x (take i cells) in
         let here : L.letters v k ≡ letter c x before =
-        level k h ∙ ap (λ n. letter c x (column L k (take n work))) (sub-zero i) ∙ ap (letter c x) (f.lanewise k h) in
+        level k h ∙ ap (letter c x) (f.lanewise k h) in
         ap (column L k) (take_more_set work i v hw) ∙ map_push (λ w. L.letters w k) (take i work) v
         ∙ ap (λ y. y ++ L.letters v k ∷ []) (f.lanewise k h) ∙ ap (λ y. before ++ y ∷ []) here
         ∙ sym (letters_push letter x (take i cells) c) ∙ ap (λ y. letters_of letter x (take i cells ++ y ∷ [])) at_i ∙ ap (letters_of letter x) (sym (take_more cells i c hc));
     rest = rest_more work old i v f.rest;
     long = length-set work i v ∙ f.long;
-  }
-
-  -- all rows: the table is settled
-  pub filled_all : (new : List X) (limit : ℕ) → 1088 ≤ length leaves → length cells ≤ length old → Filled L letter cells leaves old new (length cells) → Settled L (table_meaning letter cells limit) leaves old new
-  filled_all new limit wide long f = record {
-    allowed = cond-false _ _ _ (or_from (nat_lt (length leaves) 1088) (nat_lt (length old) (length cells)) (le-ltb (length leaves) 1088 wide) (le-ltb (length old) (length cells) long));
-    lanewise = λ k h. f.lanewise k h ∙ ap (letters_of letter (column L k (take 1088 leaves))) (take_all (length cells) cells (omega arith));
-    rest = f.rest;
   }

@@ -1,54 +1,36 @@
 -- Patterns of NAND cells, laid over the operands of a part. Assumes nothing.
-use Rattle.std.proofs.Common.{◌≡◌, ℕ, zero, suc, ◌+◌, ◌-◌, ◌<◌, Bool, true, false, leb, List, [], ◌∷◌, ◌++◌, map, length, get_or, take, sym, refl, ap, ◌∙◌, subst, append_assoc, append-nil, arith, lit<}
-use Rattle.std.proofs.lemmas.List.{get_or_append_left, get_or-append_right, length_push, map_push, take_more}
-use Rattle.std.proofs.lemmas.Bool.{and_parts, leb-false, lt-leb, ltb-true, or_from, or_parts}
+use Rattle.std.proofs.Common.{◌≡◌, ℕ, zero, suc, ◌+◌, ◌-◌, ◌<◌, Bool, true, false, List, [], ◌∷◌, ◌++◌, map, length, get_or, take, sym, refl, ap, ◌∙◌, subst, append_assoc, append-nil, arith}
+use Rattle.std.proofs.lemmas.Grind.{common_steps}
+use Rattle.std.proofs.lemmas.List.{get_or-map, length-map, get_or_append_left, get_or-append_right, length_push, map_push, take_more}
+use Rattle.std.proofs.lemmas.Bool.{and_parts, lt-leb, ltb-true, or_from}
 use Rattle.level.specs.declared.letter.Letter.{Letter}
 use Rattle.level.specs.declared.letter.Letter.TheVariants as letter
 use Rattle.store.specs.declared.part.PartKind.{PartKind}
-use Rattle.store.specs.declared.part.PartKind.TheVariants.{Zero, One, Leaf, Not, And, Or, Xor}
 use Rattle.store.specs.Meaning.{at}
-use Rattle.store.specs.Parts.{kind_letter, missing}
-use Rattle.store.proofs.Laws.{never}
+use Rattle.store.specs.Parts.{price, kind_letter, missing}
 use Rattle.cells.specs.declared.nand.NandCell.{NandCell}
 use Rattle.cells.specs.declared.part.Part.{Part}
 use Rattle.cells.specs.declared.pattern.Pin.{Pin}
 use Rattle.cells.specs.declared.pattern.Pin.TheVariants.{First, Second, Inner}
 use Rattle.cells.specs.declared.pattern.Stage.{Stage}
 use Rattle.cells.specs.declared.pattern.Stage.TheVariants as stage
-use Rattle.cells.specs.Cells.{letters_after, letters_of}
+use Rattle.cells.specs.Cells.{Sound, letters_after, letters_of}
 use Rattle.cells.specs.Nands.{nand_l, nand_letter, nand_dangles}
-use Rattle.cells.specs.Patterns.{every_letter, has_first, has_second, is_leaf, last_letter, nand_price, pin_letter, pin_signal, pin_wired, realises, same_letter, stage_cell, stage_letter, stage_wired, stages_after, wired}
+use Rattle.cells.specs.Patterns.{every_letter, has_first, has_second, is_leaf, last_letter, nand_costs, pin_letter, pin_signal, pin_wired, realises, same_letter, stage_cell, stage_letter, stage_wired, stages_after, wired}
 use Rattle.cells.specs.Read.{gate_dangles, gate_letter}
 use Rattle.cells.specs.Laws.{letters_length}
+use Rattle.cells.proofs.Places.{sound_more}
 use Rattle.cells.proofs.Letters.{letters_append}
 
 -- the operands that a part has are there
 first_below : (kind : PartKind) (a b n : ℕ) → has_first kind ≡ true → missing kind a b n ≡ false → a < n
-first_below Zero a b n h m = never h
-first_below One a b n h m = never h
-first_below Leaf a b n h m = never h
-first_below Not a b n h m = leb-false n a m
-first_below And a b n h m = leb-false n a (or_parts (leb n a) (leb n b) m).0
-first_below Or a b n h m = leb-false n a (or_parts (leb n a) (leb n b) m).0
-first_below Xor a b n h m = leb-false n a (or_parts (leb n a) (leb n b) m).0
+first_below = grind (arith, common_steps)
 
 second_below : (kind : PartKind) (a b n : ℕ) → has_second kind ≡ true → missing kind a b n ≡ false → b < n
-second_below Zero a b n h m = never h
-second_below One a b n h m = never h
-second_below Leaf a b n h m = never h
-second_below Not a b n h m = never h
-second_below And a b n h m = leb-false n b (or_parts (leb n a) (leb n b) m).1
-second_below Or a b n h m = leb-false n b (or_parts (leb n a) (leb n b) m).1
-second_below Xor a b n h m = leb-false n b (or_parts (leb n a) (leb n b) m).1
+second_below = grind (arith, common_steps)
 
 leaf_below : (kind : PartKind) (a b n : ℕ) → is_leaf kind ≡ true → missing kind a b n ≡ false → a < 1088
-leaf_below Zero a b n h m = never h
-leaf_below One a b n h m = never h
-leaf_below Leaf a b n h m = leb-false 1088 a m
-leaf_below Not a b n h m = never h
-leaf_below And a b n h m = never h
-leaf_below Or a b n h m = never h
-leaf_below Xor a b n h m = never h
+leaf_below = grind (arith, common_steps)
 
 -- stage i of a wired pattern is wired
 wired_from : (kind : PartKind) (n : ℕ) (stages : List Stage) (i : ℕ) (s : Stage) → i < length stages → wired kind n stages ≡ true → stage_wired kind (n + i) (get_or stages i s) ≡ true
@@ -111,22 +93,23 @@ module _ (part : Part) (base : ℕ) (there : gate_dangles base part ≡ false) w
         ∙ ap (letters_after nand_letter leaves (map (stage_cell part base) stages)) (append_assoc s before (x ∷ []))
         ∙ stages_letters stages (before ++ x ∷ []) (suc n) more both.1
 
+-- the cells of a wired pattern do not dangle
+pub pattern_sound : (part : Part) (cells : List NandCell) (stages : List Stage) → Sound nand_dangles cells → gate_dangles (length cells) part ≡ false → wired part.kind 0 stages ≡ true → Sound nand_dangles (cells ++ map (stage_cell part (length cells)) stages)
+pattern_sound part cells stages old there w =
+    let base = length cells in
+    let cell = stage_cell part base in
+    sound_more nand_dangles (map cell stages) cells old
+    (λ n c h.
+    let few : n < length stages = simp length-map at h in
+    ap (nand_dangles (base + n)) (get_or-map cell stages n stage.Zero c few)
+    ∙ stage_dangles part base there n (get_or stages n stage.Zero) (wired_at part.kind stages n stage.Zero few w))
+
 -- a test of every letter
 every : (test : Letter → Bool) → every_letter test ≡ true → (x : Letter) → test x ≡ true
-every test h letter.Zero = (and_parts (test letter.Zero) _ h).0
-every test h letter.One = (and_parts (test letter.One) _ (and_parts (test letter.Zero) _ h).1).0
-every test h letter.Unknown = (and_parts (test letter.One) _ (and_parts (test letter.Zero) _ h).1).1
+every = grind (arith, common_steps)
 
 same : (x y : Letter) → same_letter x y ≡ true → x ≡ y
-same letter.Zero letter.Zero h = refl
-same letter.Zero letter.One h = never h
-same letter.Zero letter.Unknown h = never h
-same letter.One letter.Zero h = never h
-same letter.One letter.One h = refl
-same letter.One letter.Unknown h = never h
-same letter.Unknown letter.Zero h = never h
-same letter.Unknown letter.One h = never h
-same letter.Unknown letter.Unknown h = refl
+same = grind (arith, common_steps)
 
 -- what the test of a pattern says
 pub realised : (kind : PartKind) (stages : List Stage) → realises kind stages ≡ true → (leaf a b : Letter) → last_letter leaf a b stages ≡ kind_letter kind leaf a b
@@ -136,14 +119,8 @@ realised kind stages h leaf a b =
     same _ _ (every (third leaf a) (every (second leaf) (every (λ x. every_letter (second x)) h leaf) a) b)
 
 -- every part takes a cell
-pub some_cells : (kind : PartKind) → 0 < nand_price kind
-some_cells Zero = lit< tt
-some_cells One = lit< tt
-some_cells Leaf = lit< tt
-some_cells Not = lit< tt
-some_cells And = lit< tt
-some_cells Or = lit< tt
-some_cells Xor = lit< tt
+pub some_cells : (kind : PartKind) → 0 < price nand_costs kind
+some_cells = grind (arith, common_steps)
 
 -- the last cell of a pattern has the letter of the part
 pub pattern_means : (part : Part) (cells : List NandCell) (stages : List Stage) (leaves : List Letter) → gate_dangles (length cells) part ≡ false → wired part.kind 0 stages ≡ true → realises part.kind stages ≡ true → at (letters_of nand_letter leaves (cells ++ map (stage_cell part (length cells)) stages)) (length cells + (length stages - 1)) ≡ gate_letter part leaves (letters_of nand_letter leaves cells)

@@ -1,5 +1,5 @@
 -- Tables that grow by some cells. Assumes nothing.
-use Rattle.std.proofs.Common.{◌≡◌, ℕ, ◌+◌, ◌<◌, ◌≤◌, Bool, false, ltb, List, [], ◌∷◌, ◌++◌, length, get_or, take, None, sym, refl, ap, ◌∙◌, arith, below_more}
+use Rattle.std.proofs.Common.{◌≡◌, ℕ, suc, ◌+◌, ◌<◌, ◌≤◌, Bool, false, ltb, List, [], ◌∷◌, ◌++◌, length, get_or, take, None, sym, refl, ap, ◌∙◌, subst, append_assoc, append-nil, add-zero, arith, below_more}
 use mathlib.Core.Path.{subst⁻¹}
 use Rattle.std.proofs.lemmas.List.{get_or_push, get_or_append_left, length_push, length-append, take_all, take_at, take-take}
 use Rattle.std.proofs.lemmas.Bool.{cond-false, le-ltb}
@@ -20,6 +20,16 @@ sound_push dangles cells new c e old here =
     (λ n h. ap (dangles n) (get_or_append_left cells (c ∷ []) d n h) ∙ old n d h)
     (ap (dangles (length cells)) (get_or_push cells c d (length cells) refl) ∙ here) in
     subst⁻¹ (Sound dangles) e (λ n d h. step d n (simp length_push at h))
+
+-- nor with more cells, of which none dangles
+pub sound_more : {C : Type 0} (dangles : ℕ → C → Bool) (more cells : List C) → Sound dangles cells → ((n : ℕ) (c : C) → n < length more → dangles (length cells + n) (get_or more n c) ≡ false) → Sound dangles (cells ++ more)
+sound_more dangles [] cells old here = subst (Sound dangles) (sym (append-nil cells)) old
+sound_more dangles (c ∷ more) cells old here =
+    let next = cells ++ c ∷ [] in
+    let first : dangles (length cells) c ≡ false = ap (λ n. dangles n c) (sym (add-zero (length cells))) ∙ here 0 c (omega arith) in
+    subst (Sound dangles) (append_assoc cells (c ∷ []) more)
+    (sound_more dangles more next (sound_push dangles cells next c refl old first)
+    (λ n d h. ap (λ k. dangles k (get_or more n d)) (simp length_push (omega arith)) ∙ here (suc n) d (omega arith)))
 
 -- nothing speaks against a part
 pub none_against : (price : PartKind → ℕ) (code a b : ℕ) (m : Meaning) → code ≤ 6 → missing (kind_at code) a b m.size ≡ false → price (kind_at code) ≤ m.free → place_refusal price code a b m ≡ None

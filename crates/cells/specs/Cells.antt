@@ -1,7 +1,10 @@
 -- The letters of a list of cells, of whatever type. Assumes nothing.
-use Rattle.std.specs.Prelude.{◌≡◌, ℕ, ◌-◌, ◌<◌, Bool, false, List, [], ◌∷◌, ◌++◌, length, slice_index_or}
+use Rattle.std.specs.Prelude.{◌≡◌, ℕ, ◌+◌, ◌-◌, ◌<◌, ◌≤◌, Bool, false, List, [], ◌∷◌, ◌++◌, length, slice_index_or}
 use Rattle.level.specs.declared.letter.Letter.{Letter}
-use Rattle.store.specs.Meaning.{Meaning}
+use Rattle.store.specs.declared.part.PartKind.{PartKind}
+use Rattle.store.specs.Meaning.{Meaning, at}
+use Rattle.cells.specs.declared.part.Part.{Part}
+use Rattle.cells.specs.Read.{gate_letter}
 
 module _ {C : Type 0} where
   -- the letters before, and then each cell's, which follows from those of the leaves and from those before it
@@ -23,3 +26,12 @@ module _ {C : Type 0} where
     size = length cells;
     free = limit - length cells;
   }
+
+  -- a list of cells, none of which dangles, grew by those that stand for a part: few enough, the last with the part's letter
+  pub record Expanded (letter : C → List Letter → List Letter → Letter) (dangles : ℕ → C → Bool) (price : PartKind → ℕ) (part : Part) (old new : List C) (signal : ℕ) : Type 0 where
+    pub more : List C
+    pub grown : new ≡ old ++ more
+    pub few : length more ≤ price part.kind
+    pub last : signal + 1 ≡ length new
+    pub sound : Sound dangles old → Sound dangles new
+    pub means : (leaves : List Letter) → at (letters_of letter leaves new) signal ≡ gate_letter part leaves (letters_of letter leaves old)

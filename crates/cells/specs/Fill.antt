@@ -7,6 +7,6 @@ use Rattle.cells.specs.Cells.{letters_of}
 
 -- the first n rows of `new` have the letters of the first n cells, in each lane, and the others are those of `old`
 pub record Filled {X C : Type 0} (L : Ghosts X) (letter : C → List Letter → List Letter → Letter) (cells : List C) (leaves old new : List X) (n : ℕ) : Type 0 where
-  pub lanewise : (k : ℕ) → k < L.lanes → column L k (take n new) ≡ letters_of letter (column L k (take 1088 leaves)) (take n cells)
+  pub lanewise : (k : ℕ) → k < L.LANES → column L k (take n new) ≡ letters_of letter (column L k leaves) (take n cells)
   pub rest : drop n new ≡ drop n old
   pub long : length new ≡ length old

@@ -16,15 +16,9 @@ use Rattle.cells.specs.declared.pattern.Stage.{Stage}
 use Rattle.cells.specs.declared.pattern.Stage.TheVariants as stage
 use Rattle.cells.specs.Nands.{nand_l}
 
--- what a part costs in the NAND table
-abbrev pub nand_price : PartKind → ℕ
-nand_price Zero = 1
-nand_price One = 1
-nand_price Leaf = 1
-nand_price Not = 1
-nand_price And = 2
-nand_price Or = 3
-nand_price Xor = 4
+-- what the parts cost in the NAND table, in the order of their codes
+abbrev pub nand_costs : List ℕ
+nand_costs = 1 ∷ 1 ∷ 1 ∷ 1 ∷ 2 ∷ 3 ∷ 4 ∷ []
 
 module _ (leaf a b : Letter) where
   abbrev pub pin_letter : List Letter → Pin → Letter

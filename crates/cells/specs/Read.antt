@@ -1,5 +1,5 @@
 -- A part with its operands: as it is read from a call, and as a cell of the gate table. Assumes nothing.
-use Rattle.std.specs.Prelude.{ℕ, Bool, List}
+use Rattle.std.specs.Prelude.{ℕ, Bool, List, [], ◌∷◌}
 use Rattle.level.specs.declared.letter.Letter.{Letter}
 use Rattle.store.specs.declared.part.PartKind.{PartKind}
 use Rattle.store.specs.declared.part.PartKind.TheVariants.{Zero, One, Leaf, Not, And, Or, Xor}
@@ -18,6 +18,10 @@ operands_of Xor a b = (a, b)
 
 abbrev pub part_of : PartKind → ℕ → ℕ → Part
 part_of kind a b = record { kind = kind; first = (operands_of kind a b).0; second = (operands_of kind a b).1 }
+
+-- every part costs a cell in the gate table
+abbrev pub gate_costs : List ℕ
+gate_costs = 1 ∷ 1 ∷ 1 ∷ 1 ∷ 1 ∷ 1 ∷ 1 ∷ []
 
 -- the letter of a part as a cell
 abbrev pub gate_letter : Part → List Letter → List Letter → Letter

@@ -2,15 +2,19 @@
 #![tactic(auto)]
 
 mod cell;
-mod gate_table;
 mod nand;
-mod nand_table;
 mod part;
 mod pattern;
-mod settle;
+mod room;
+mod sources;
 mod table;
 
-pub use gate_table::GateTable;
 pub use nand::NandCell;
-pub use nand_table::NandTable;
 pub use part::Part;
+pub use table::CellTable;
+
+/// A store whose cells are the parts themselves.
+pub type GateTable = CellTable<Part>;
+
+/// A store whose cells are constants, leaves and NANDs.
+pub type NandTable = CellTable<NandCell>;

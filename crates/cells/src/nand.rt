@@ -1,11 +1,18 @@
-//! A cell of the NAND table.
+//! A cell of the NAND table: each part becomes the cells of its pattern.
+ghost use Rattle.std.specs.Prelude.{◌≡◌, ◌+◌, ◌≤◌, true, ◌++◌, map, length};
 ghost use Rattle.cells.specs.Nands.{nand_dangles, nand_letter};
+ghost use Rattle.cells.specs.Patterns.{nand_costs, stage_cell, wired};
 
-use super::cell::{Cell, leaf, signal};
+use super::cell::Cell;
+use super::part::Part;
+use super::pattern::{Stage, pattern};
+use super::room::Cells;
+use super::sources::Sources;
 use level::Level;
 
 /// A constant, a leaf by its number, or the NAND of two signals before the cell.
-#[derive(Clone, Copy)]
+// Signals by number and no boxes: the numbers are what a store answers, and many cells may read one signal.
+#[derive(Clone, Copy, PartialEq, Eq, Debug)]
 pub enum NandCell {
     Zero,
     One,
@@ -13,17 +20,39 @@ pub enum NandCell {
     Nand(u32, u32),
 }
 
+// Adds the cells of a pattern over a part's operands.
+fn lay(stages: &[Stage], part: Part, cells: &mut Cells<NandCell>)
+    requires wired { wired part.kind 0 stages.now ≡ true }
+    requires fits { length cells.old.list.items + length stages.now ≤ cells.old.limit }
+    ensures items { cells.new.list.items ≡ cells.old.list.items ++ map (stage_cell part (length cells.old.list.items)) stages.now }
+    ensures limit { cells.new.limit ≡ cells.old.limit }
+{
+    let base = cells.len() as u32;
+    for stage in stages {
+        cells.push(stage.over(part, base));
+    }
+}
+
 impl Cell for NandCell {
+    const COSTS: [usize; 7] = [1, 1, 1, 1, 2, 3, 4];
+
+    ghost COSTS = { nand_costs };
+
     ghost letter = { nand_letter };
 
     ghost dangles = { nand_dangles };
 
-    fn level<L: Level>(self, leaves: &[L], before: &[L]) -> L {
+    fn level<L: Level>(self, sources: &Sources<L>) -> L {
         match self {
             NandCell::Zero => L::zero(),
             NandCell::One => L::one(),
-            NandCell::Leaf(n) => leaf(leaves, n),
-            NandCell::Nand(a, b) => signal(before, a).and(signal(before, b)).not(),
+            NandCell::Leaf(n) => sources.leaf(n),
+            NandCell::Nand(a, b) => sources.signal(a).and(sources.signal(b)).not(),
         }
+    }
+
+    fn expand(part: Part, cells: &mut Cells<NandCell>) -> usize {
+        lay(pattern(part.kind), part, cells);
+        cells.len() - 1
     }
 }

@@ -1,19 +1,22 @@
 //! A part with its operands: what a table is asked to place, and a cell of the gate table.
-ghost use Rattle.std.specs.Prelude.{◌≡◌, ℕ, ◌<◌, ◌≤◌, true, false, Some, MatchResult};
+ghost use Rattle.std.specs.Prelude.{◌≡◌, ℕ, ◌<◌, ◌≤◌, true, false, MatchResult};
 ghost use Rattle.store.specs.declared.part.PartKind.{PartKind};
 ghost use Rattle.store.specs.declared.faults.StoreFault.TheVariants.{NoSuchOperand};
 ghost use Rattle.store.specs.Faults.{store_told};
 ghost use Rattle.store.specs.Meaning.{Meaning};
 ghost use Rattle.store.specs.Parts.{kind_at, missing};
 ghost use Rattle.store.specs.Place.{place_refusal};
-ghost use Rattle.cells.specs.Read.{gate_dangles, gate_letter, operands_of, part_of};
+ghost use Rattle.cells.specs.Read.{gate_costs, gate_dangles, gate_letter, part_of};
 
-use super::cell::{Cell, leaf, signal};
+use super::cell::Cell;
+use super::room::Cells;
+use super::sources::Sources;
 use level::Level;
 use store::{LEAVES, PartKind, StoreFault};
 
 /// A part over the operands that it uses; one that it does not use is 0.
-#[derive(Clone, Copy)]
+// No enum with the operands in its cases: the NAND patterns take operands by their places, whatever the kind.
+#[derive(Clone, Copy, PartialEq, Eq, Debug)]
 pub struct Part {
     pub kind: PartKind,
     pub first: u32,
@@ -32,54 +35,51 @@ fn operand(n: usize, limit: usize) -> Result<u32, StoreFault>
     }
 }
 
-// The operands that a part of this kind uses, where they are there.
-fn operands(kind: PartKind, a: usize, b: usize, size: usize) -> Result<(u32, u32), StoreFault>
-    requires { size ≤ 1048576 }
-    ensures { MatchResult result
-        (λ o. (o ≡ operands_of kind a b) × (missing kind a b size ≡ false))
-        (λ e. (e ≡ NoSuchOperand) × (missing kind a b size ≡ true)) }
-{
-    match kind {
-        PartKind::Zero | PartKind::One => Ok((0, 0)),
-        PartKind::Leaf => Ok((operand(a, LEAVES)?, 0)),
-        PartKind::Not => Ok((operand(a, size)?, 0)),
-        PartKind::And | PartKind::Or | PartKind::Xor => Ok((operand(a, size)?, operand(b, size)?)),
+impl Part {
+    /// The part of a kind over the operands that it uses, where these are there in a table of so many cells.
+    pub(crate) fn over(kind: PartKind, a: usize, b: usize, size: usize) -> Result<Part, StoreFault>
+        requires { size ≤ 1048576 }
+        ensures { MatchResult result
+            (λ part. (part ≡ part_of kind a b) × (missing kind a b size ≡ false))
+            (λ e. (e ≡ NoSuchOperand) × (missing kind a b size ≡ true)) }
+    {
+        let (first, second) = match kind {
+            PartKind::Zero | PartKind::One => (0, 0),
+            PartKind::Leaf => (operand(a, LEAVES)?, 0),
+            PartKind::Not => (operand(a, size)?, 0),
+            PartKind::And | PartKind::Or | PartKind::Xor => (operand(a, size)?, operand(b, size)?),
+        };
+        Ok(Part {
+            kind,
+            first,
+            second,
+        })
     }
 }
 
-/// The part of a code over its operands, in a store of so many signals.
-pub(crate) fn read_part(code: u8, a: usize, b: usize, size: usize) -> Result<Part, StoreFault>
-    requires { size ≤ 1048576 }
-    ensures { MatchResult result
-        (λ part. (code ≤ 6) × (part ≡ part_of (kind_at code) a b) × (missing (kind_at code) a b size ≡ false))
-        (λ e. ((price : PartKind → ℕ) (m : Meaning) → m.size ≡ size → place_refusal price code a b m ≡ Some (store_told e))) }
-{
-    let Some(kind) = PartKind::from_code(code) else {
-        return Err(StoreFault::NoSuchPart);
-    };
-    let (first, second) = operands(kind, a, b, size)?;
-    Ok(Part {
-        kind,
-        first,
-        second,
-    })
-}
-
 impl Cell for Part {
+    const COSTS: [usize; 7] = [1, 1, 1, 1, 1, 1, 1];
+
+    ghost COSTS = { gate_costs };
+
     ghost letter = { gate_letter };
 
     ghost dangles = { gate_dangles };
 
-    fn level<L: Level>(self, leaves: &[L], before: &[L]) -> L {
+    fn level<L: Level>(self, sources: &Sources<L>) -> L {
         let (a, b) = (self.first, self.second);
         match self.kind {
             PartKind::Zero => L::zero(),
             PartKind::One => L::one(),
-            PartKind::Leaf => leaf(leaves, a),
-            PartKind::Not => signal(before, a).not(),
-            PartKind::And => signal(before, a).and(signal(before, b)),
-            PartKind::Or => signal(before, a).or(signal(before, b)),
-            PartKind::Xor => signal(before, a).xor(signal(before, b)),
+            PartKind::Leaf => sources.leaf(a),
+            PartKind::Not => sources.signal(a).not(),
+            PartKind::And => sources.signal(a).and(sources.signal(b)),
+            PartKind::Or => sources.signal(a).or(sources.signal(b)),
+            PartKind::Xor => sources.signal(a).xor(sources.signal(b)),
         }
+    }
+
+    fn expand(part: Part, cells: &mut Cells<Part>) -> usize {
+        cells.push(part)
     }
 }

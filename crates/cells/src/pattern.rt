@@ -1,6 +1,7 @@
 //! The table that expands parts into NAND cells.
 ghost use Rattle.std.specs.Prelude.{◌≡◌, ℕ, ◌+◌, ◌≤◌, true, length};
-ghost use Rattle.cells.specs.Patterns.{nand_price, pin_signal, pin_wired, realises, stage_cell, stage_wired, wired};
+ghost use Rattle.store.specs.Parts.{price};
+ghost use Rattle.cells.specs.Patterns.{nand_costs, pin_signal, pin_wired, realises, stage_cell, stage_wired, wired};
 
 use super::nand::NandCell;
 use super::part::Part;
@@ -85,7 +86,7 @@ const XOR: [Stage; 4] = [
 pub(crate) fn pattern(kind: PartKind) -> &'static [Stage]
     ensures wired { wired kind 0 result.now ≡ true }
     ensures realised { realises kind result.now ≡ true }
-    ensures priced { length result.now ≡ nand_price kind }
+    ensures priced { length result.now ≡ price nand_costs kind }
 {
     match kind {
         PartKind::Zero => &ZERO,

@@ -1,56 +1,75 @@
-//! A table of cells of one type, with room for so many: what both stores are made of.
-ghost use Rattle.std.specs.Prelude.{◌≡◌, ◌+◌, ◌-◌, ◌<◌, ◌≤◌, [], ◌∷◌, ◌++◌, vec_len, vec_capacity, MatchResult};
-ghost use Rattle.store.specs.Faults.{NotMade};
+//! A table of cells of one type: what both stores are.
+ghost use Rattle.std.specs.Prelude.{◌≡◌, ◌≤◌, length};
+ghost use Rattle.cells.specs.Cells.{Sound, table_meaning};
+ghost use Rattle.cells.specs.Fill.{Filled};
+ghost use Rattle.cells.specs.Laws.{table_sized};
+ghost use Rattle.std.proofs.Common.{rules};
 
+use super::cell::Cell;
+use super::part::Part;
+use super::room::Cells;
+use super::sources::Sources;
+use level::Level;
 use std::alloc::Global;
-use store::{MOST_CELLS, NewStoreFault};
+use store::{LEAVES, NewStoreFault, PartKind, Store, StoreFault};
 
-/// Cells in the order in which they were added, at most `limit` of them. The memory for all is taken at once.
+/// A store whose cells are of one type.
 #[derive(Drop)]
-pub(crate) struct CellTable<C> {
-    pub(crate) cells: Vec<C>,
-    pub(crate) limit: usize,
-    ghost bounded: { limit ≤ 1048576 },
-    ghost within: { vec_len cells ≤ limit },
-    ghost reserved: { limit ≤ vec_capacity cells },
+pub struct CellTable<C: Cell> {
+    cells: Cells<C>,
+    ghost sound: { Sound C.dangles cells.list.items },
 }
 
-impl<C> CellTable<C> {
-    /// An empty table.
-    pub(crate) fn new(heap: Global, limit: usize) -> Result<CellTable<C>, NewStoreFault>
-        ensures { MatchResult result (λ t. (t.cells.items ≡ []) × (vec_len t.cells ≡ 0) × (t.limit ≡ limit)) (λ e. NotMade limit e) }
-    {
-        if limit > MOST_CELLS {
-            return Err(NewStoreFault::TooManyCells);
-        }
-        let cells = Vec::with_capacity(heap, limit)?;
-        Ok(CellTable { cells, limit })
+// Fills a row for each cell, in order: a cell reads only the rows before its own.
+fn fill<C: Cell, L: Level>(cells: &[C], leaves: &[L], work: &mut [L])
+    requires sound { Sound C.Cell.dangles cells.now }
+    requires wide { length leaves.now ≡ 1088 }
+    requires long { length cells.now ≤ length work.old }
+    ensures { Filled L.Level C.Cell.letter cells.now leaves.now work.old work.new (length cells.now) }
+{
+    for (i, cell) in cells.iter().enumerate() {
+        let sources = Sources {
+            leaves,
+            signals: &work[..i],
+        };
+        work[i] = cell.level(&sources);
+    }
+}
+
+impl<C: Cell> Store for CellTable<C> {
+    const COSTS: [usize; 7] = C::COSTS;
+
+    ghost COSTS = { C.COSTS };
+
+    ghost means = { λ t. table_meaning C.letter t.cells.list.items t.cells.limit };
+
+    ghost sized = { λ s. table_sized C.letter s.cells.list.items s.cells.limit };
+
+    ghost bounded = { Prim.search rules };
+
+    fn new(heap: Global, cells: usize) -> Result<CellTable<C>, NewStoreFault> {
+        let cells = Cells::new(heap, cells)?;
+        Ok(CellTable { cells })
     }
 
-    /// How many cells there are.
-    pub(crate) fn len(&self) -> usize
-        ensures { result ≡ vec_len self.now.cells }
-    {
+    fn count(&self) -> usize {
         self.cells.len()
     }
 
-    /// How many cells are free.
-    pub(crate) fn room(&self) -> usize
-        ensures { result ≡ self.now.limit - vec_len self.now.cells }
-    {
-        self.limit - self.cells.len()
+    fn place(&mut self, code: u8, a: usize, b: usize) -> Result<usize, StoreFault> {
+        let kind = PartKind::try_from(code)?;
+        let part = Part::over(kind, a, b, self.cells.len())?;
+        if self.cells.room() < Self::cost(kind) {
+            return Err(StoreFault::Full);
+        }
+        Ok(C::expand(part, &mut self.cells))
     }
 
-    /// Adds a cell, and answers its place.
-    pub(crate) fn push(&mut self, cell: C) -> usize
-        requires { vec_len self.old.cells < self.old.limit }
-        ensures at { result ≡ vec_len self.old.cells }
-        ensures items { self.new.cells.items ≡ self.old.cells.items ++ cell ∷ [] }
-        ensures len { vec_len self.new.cells ≡ vec_len self.old.cells + 1 }
-        ensures limit { self.new.limit ≡ self.old.limit }
-    {
-        let place = self.cells.len();
-        self.cells.push_reserved(cell);
-        place
+    fn settle<L: Level>(&self, leaves: &[L], work: &mut [L]) -> Result<(), StoreFault> {
+        if leaves.len() < LEAVES || work.len() < self.cells.len() {
+            return Err(StoreFault::ShortTable);
+        }
+        fill(&self.cells.list, &leaves[..LEAVES], work);
+        Ok(())
     }
 }

@@ -1,2 +1,2 @@
-pub mod Sorting
+pub mod Words
 pub mod Steps

@@ -1,13 +1,11 @@
 -- How what a rule comes to follows from what its parts come to. Assumes nothing.
 use Rattle.std.proofs.Common.{◌≡◌, ℕ, zero, suc, ◌-◌, ◌<◌, ◌≤◌, Bool, true, false, ◌&&◌, ◌||◌, List, length, sym, refl, ap, ◌∙◌, arith}
 use Rattle.std.proofs.lemmas.Bool.{cond-true, cond-false}
-use Rattle.words.specs.declared.token.Sign.{Sign}
-use Rattle.words.specs.declared.token.Keyword.{Keyword}
 use Rattle.words.specs.declared.token.Token.{Token}
 use Rattle.grammar.specs.Rules.{Part, Rule, mark, keyword, name, integer, ◌then◌, maybe, many, either, fork, part, inside}
 use Rattle.grammar.specs.Sorts.{sort, starts, nullable, opens}
 use Rattle.grammar.specs.Trees.{Tree, both, none, some, end, more, left, right, one, other, nested}
-use Rattle.grammar.specs.Reading.{Out, got, wrong, deep, and_then, map_out, read_mark, read_keyword, read_name, read_integer, read_many, plain, read_with, read_part, read}
+use Rattle.grammar.specs.Reading.{Out, got, wrong, deep, and_then, map_out, IsWord, read_word, read_many, plain, read_with, read_part, read}
 use Rattle.cursor.specs.declared.stop.Stop.{Stop}
 use Rattle.cursor.specs.declared.stop.Stop.TheVariants.{Unexpected, TooDeep, OutOfMemory}
 use Rattle.cursor.specs.Told.{Stopped}
@@ -29,21 +27,13 @@ stop_first o f = stop_by o (and_then o f) (λ ws h. ap (λ x. and_then x f) h) (
 
 -- single words are read alike however deep
 module _ (n : ℕ) where
-  pub mark_is : (s : Sign) (ws : List Token) → read n (mark s) ws ≡ read_mark s ws
+  pub word_is : (r : Rule) → IsWord r → (ws : List Token) → read n r ws ≡ read_word r ws
   unfolding read read_with
-  mark_is s ws = refl
-
-  pub keyword_is : (k : Keyword) (ws : List Token) → read n (keyword k) ws ≡ read_keyword k ws
-  unfolding read read_with
-  keyword_is k ws = refl
-
-  pub name_is : (ws : List Token) → read n name ws ≡ read_name ws
-  unfolding read read_with
-  name_is ws = refl
-
-  pub integer_is : (ws : List Token) → read n integer ws ≡ read_integer ws
-  unfolding read read_with
-  integer_is ws = refl
+  word_is (mark s) w ws = refl
+  word_is (keyword k) w ws = refl
+  word_is name w ws = refl
+  word_is integer w ws = refl
+  word_is _ w ws = absurd w
 
   -- a then b
   module _ (a b : Rule) (ws : List Token) where

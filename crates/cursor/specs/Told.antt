@@ -1,19 +1,13 @@
 -- What a reader tells, beside what its rule comes to. Assumes nothing.
-use Rattle.std.specs.Prelude.{◌≡◌, ℕ, List, [], ◌∷◌, Some, None, Ok, Err, Option, Result}
+use Rattle.std.specs.Prelude.{◌≡◌, ℕ, List, Ok, Err, Result}
 use Rattle.words.specs.declared.token.Sign.{Sign}
 use Rattle.words.specs.declared.token.Keyword.{Keyword}
-use Rattle.words.specs.declared.token.Kind.{Kind}
 use Rattle.words.specs.declared.token.Token.{Token}
 use Rattle.grammar.specs.Rules.{mark, keyword}
 use Rattle.grammar.specs.Trees.{Tree, mark_at, keyword_at}
 use Rattle.grammar.specs.Reading.{Out, got, wrong, deep}
 use Rattle.cursor.specs.declared.stop.Stop.{Stop}
 use Rattle.cursor.specs.declared.stop.Stop.TheVariants.{Unexpected, TooDeep, OutOfMemory}
-
--- the kind of the first word
-abbrev pub kind_at : List Token → Option Kind
-kind_at [] = None
-kind_at (w ∷ ws) = Some w.kind
 
 -- the place of a sign, of a keyword
 abbrev pub mark_place : {s : Sign} → Tree (mark s) → ℕ
@@ -42,8 +36,3 @@ Wrote o f before (Err e) rest after = Stopped o e rest
 abbrev pub Gave : {A V D : Type 0} → Out A → (A → D → V × D) → D → Result V Stop → List Token → D → Type 0
 Gave {A = A} o f before (Ok v) rest after = (t : A) × (o ≡ got t rest) × ((v, after) ≡ f t before)
 Gave o f before (Err e) rest after = Stopped o e rest
-
--- one word is taken, and its place answered, unless there is none
-abbrev pub Advanced : List Token → Result ℕ Stop → List Token → Type 0
-Advanced ws (Ok p) rest = (w : Token) × (ws ≡ w ∷ rest) × (p ≡ w.place)
-Advanced ws (Err e) rest = (ws ≡ []) × (e ≡ Unexpected) × (rest ≡ ws)

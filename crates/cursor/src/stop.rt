@@ -5,7 +5,7 @@ ghost use Rattle.cursor.specs.declared.stop.Stop.TheVariants.{OutOfMemory};
 use std::alloc::AllocFailed;
 
 /// Why reading stops before its end. The cursor then stands where it stopped.
-#[derive(Clone, Copy)]
+#[derive(Clone, Copy, PartialEq, Eq, Debug)]
 pub enum Stop {
     /// No module goes on with the next word, or ends here.
     Unexpected,

@@ -7,7 +7,7 @@
 ghost use Rattle.std.specs.Prelude.{◌≡◌, Some};
 ghost use Rattle.fault.specs.declared.Layer.{Layer};
 ghost use Rattle.fault.specs.declared.Refusal.{Refusal};
-ghost use Rattle.fault.specs.Print.{layer_name, refusal_line};
+ghost use Rattle.fault.specs.Print.{layer_name, layer_refusal, refusal_line};
 
 use std::fmt;
 
@@ -32,12 +32,33 @@ impl Layer {
             Layer::Bench => "BENCH",
         }
     }
+
+    /// A refusal of this layer that has no place in the text.
+    pub fn refusal(self, number: u8) -> Refusal
+        ensures { result ≡ layer_refusal self number }
+    {
+        Refusal {
+            number,
+            place: 0,
+            layer: self,
+        }
+    }
+}
+
+/// The layer's name.
+impl fmt::Display for Layer {
+    ghost output = { λ layer. Some (layer_name layer) };
+
+    fn fmt<W: fmt::Write>(&self, f: &mut fmt::Formatter<W>) -> fmt::Result {
+        f.write_str(self.name())
+    }
 }
 
 /// What the user is told of a fault: the number of the rule that was broken (0 where no rule of the table speaks of
 /// it, as at want of memory), the place in the text where there is one, and the layer.
 #[derive(Clone, Copy, PartialEq, Eq, Debug)]
 pub struct Refusal {
+    // A number: it is what the user is told. What was wrong is a case of each layer's own enum.
     pub number: u8,
     pub place: usize,
     pub layer: Layer,
@@ -48,9 +69,11 @@ impl fmt::Display for Refusal {
     ghost output = { λ x. Some (refusal_line x) };
 
     fn fmt<W: fmt::Write>(&self, f: &mut fmt::Formatter<W>) -> fmt::Result {
-        let number = self.number;
-        let place = self.place;
-        let layer = self.layer.name();
+        let Refusal {
+            number,
+            place,
+            layer,
+        } = *self;
         write!(f, "REFUSED {number} {place} {layer}")
     }
 }

@@ -1,8 +1,8 @@
 -- Tests of a rule that are computed: that its next word (at a fork its next two) tells how to read on. Assumes nothing.
 use Rattle.std.proofs.Common.{◌≡◌, ℕ, zero, suc, ◌<◌, Bool, true, false, not, ◌&&◌, ◌||◌, eqb, ltb, List, [], ◌∷◌, get_or, sym, refl, ap, ◌∙◌, arith}
-use Rattle.std.proofs.lemmas.Bool.{both_ways, not-true, false≢true, ltb-true, eqb-true, and_parts}
+use Rattle.std.proofs.lemmas.Bool.{both_ways, not-true, not_from_true, false_from_ne_true, true_from_ne_false, ltb-true, ne_eqb, and_parts, and_from, or_from}
 use Rattle.std.proofs.lemmas.Bool.Decides.{Decides-below_and}
-use Rattle.words.specs.Codes.{sign_code, keyword_code, same_sign, same_keyword}
+use Rattle.words.specs.Codes.{sign_code, keyword_code}
 use Rattle.words.specs.declared.token.Sign.{Sign}
 use Rattle.words.specs.declared.token.Sign.TheVariants.{Dot, Colon, Semicolon, Comma, LeftParen, RightParen, LeftBracket, RightBracket, Slash, Backslash, Dollar, And, Or, Xor, Not, Star, Equal, Transfer, Branch, AndReduce, OrReduce, XorReduce}
 use Rattle.words.specs.declared.token.Keyword.{Keyword}
@@ -11,7 +11,8 @@ use Rattle.words.specs.declared.token.Kind.{Kind}
 use Rattle.words.specs.declared.token.Kind.TheVariants.{Reserved, Name, Integer, Mark}
 use Rattle.words.specs.declared.token.Token.{Token}
 use Rattle.grammar.specs.Rules.{Part, group, signed, Rule, mark, keyword, name, integer, ◌then◌, maybe, many, either, fork, series, part, inside, unit}
-use Rattle.grammar.specs.Sorts.{integer_sort, sign_sort, end_sort, kind_sort, sort, nullable, starts, opens}
+use Rattle.grammar.specs.Reading.{IsWord}
+use Rattle.grammar.specs.Sorts.{integer_sort, keyword_sort, sign_sort, end_sort, kind_sort, sort, nullable, starts, opens}
 
 -- the sorts that may continue a nesting part that is complete
 abbrev pub closes : Part → ℕ → Bool
@@ -151,43 +152,14 @@ signs = Dot ∷ Colon ∷ Semicolon ∷ Comma ∷ LeftParen ∷ RightParen ∷ L
 abbrev keywords : List Keyword
 keywords = Module ∷ Inputs ∷ Outputs ∷ Memory ∷ Buses ∷ Body ∷ Sequence ∷ EndSequence ∷ ControlReset ∷ Null ∷ DeadEnd ∷ End ∷ []
 
+-- computed at each of them
 sign_known : (s : Sign) → (ltb (sign_code s) 22 ≡ true) × (get_or signs (sign_code s) Dot ≡ s)
 sign_known Dot = (refl, refl)
-sign_known Colon = (refl, refl)
-sign_known Semicolon = (refl, refl)
-sign_known Comma = (refl, refl)
-sign_known LeftParen = (refl, refl)
-sign_known RightParen = (refl, refl)
-sign_known LeftBracket = (refl, refl)
-sign_known RightBracket = (refl, refl)
-sign_known Slash = (refl, refl)
-sign_known Backslash = (refl, refl)
-sign_known Dollar = (refl, refl)
-sign_known And = (refl, refl)
-sign_known Or = (refl, refl)
-sign_known Xor = (refl, refl)
-sign_known Not = (refl, refl)
-sign_known Star = (refl, refl)
-sign_known Equal = (refl, refl)
-sign_known Transfer = (refl, refl)
-sign_known Branch = (refl, refl)
-sign_known AndReduce = (refl, refl)
-sign_known OrReduce = (refl, refl)
-sign_known XorReduce = (refl, refl)
+sign_known _ = (refl, refl)
 
 keyword_known : (k : Keyword) → (ltb (keyword_code k) 12 ≡ true) × (get_or keywords (keyword_code k) End ≡ k)
 keyword_known Module = (refl, refl)
-keyword_known Inputs = (refl, refl)
-keyword_known Outputs = (refl, refl)
-keyword_known Memory = (refl, refl)
-keyword_known Buses = (refl, refl)
-keyword_known Body = (refl, refl)
-keyword_known Sequence = (refl, refl)
-keyword_known EndSequence = (refl, refl)
-keyword_known ControlReset = (refl, refl)
-keyword_known Null = (refl, refl)
-keyword_known DeadEnd = (refl, refl)
-keyword_known End = (refl, refl)
+keyword_known _ = (refl, refl)
 
 pub sign_below : (s : Sign) → sign_code s < 22
 sign_below s = ltb-true (sign_code s) 22 (sign_known s).0
@@ -195,11 +167,48 @@ sign_below s = ltb-true (sign_code s) 22 (sign_known s).0
 pub keyword_below : (k : Keyword) → keyword_code k < 12
 keyword_below k = ltb-true (keyword_code k) 12 (keyword_known k).0
 
-pub same_sign_lem : (s m : Sign) → same_sign s m ≡ true → s ≡ m
-same_sign_lem s m e = sym (sign_known s).1 ∙ (ap (λ n. get_or signs n Dot) (eqb-true (sign_code s) (sign_code m) e) ∙ (sign_known m).1)
+-- the code tells the sign, and the keyword
+same_sign : (s m : Sign) → sign_code s ≡ sign_code m → s ≡ m
+same_sign s m e = sym (sign_known s).1 ∙ (ap (λ n. get_or signs n Dot) e ∙ (sign_known m).1)
 
-pub same_keyword_lem : (k m : Keyword) → same_keyword k m ≡ true → k ≡ m
-same_keyword_lem k m e = sym (keyword_known k).1 ∙ (ap (λ n. get_or keywords n End) (eqb-true (keyword_code k) (keyword_code m) e) ∙ (keyword_known m).1)
+same_keyword : (k m : Keyword) → keyword_code k ≡ keyword_code m → k ≡ m
+same_keyword k m e = sym (keyword_known k).1 ∙ (ap (λ n. get_or keywords n End) e ∙ (keyword_known m).1)
+
+-- a word of that sort is that sign, that keyword
+pub is_mark : (s : Sign) (k : Kind) → kind_sort k ≡ sign_sort s → k ≡ Mark s
+is_mark s (Reserved k) e = absurd (omega (arith, keyword_below k))
+is_mark s (Name n) e = absurd (omega arith)
+is_mark s (Integer v) e = absurd (omega arith)
+is_mark s (Mark m) e = ap Mark (same_sign m s (omega arith))
+
+pub is_keyword : (c : Keyword) (k : Kind) → kind_sort k ≡ keyword_sort c → k ≡ Reserved c
+is_keyword c (Reserved k) e = ap Reserved (same_keyword k c (omega arith))
+is_keyword c (Name n) e = absurd (omega arith)
+is_keyword c (Integer v) e = absurd (omega arith)
+is_keyword c (Mark m) e = absurd (omega (arith, keyword_below c))
+
+-- a single word passes, and is never empty
+pub word_ok : (r : Rule) → IsWord r → Ok r
+word_ok (mark s) w = tt
+word_ok (keyword c) w = tt
+word_ok name w = tt
+word_ok integer w = tt
+word_ok _ w = absurd w
+
+pub word_not_nullable : (r : Rule) → IsWord r → nullable r ≡ false
+word_not_nullable (mark s) w = refl
+word_not_nullable (keyword c) w = refl
+word_not_nullable name w = refl
+word_not_nullable integer w = refl
+word_not_nullable _ w = absurd w
+
+-- no word stands at the end of the text
+pub word_no_end : (r : Rule) → IsWord r → starts r end_sort ≡ false
+word_no_end (mark s) w = ne_eqb end_sort (sign_sort s) (λ e. omega (arith, sign_below s))
+word_no_end (keyword c) w = ne_eqb end_sort (keyword_sort c) (λ e. omega (arith, keyword_below c))
+word_no_end name w = refl
+word_no_end integer w = refl
+word_no_end _ w = absurd w
 
 kind_below : (k : Kind) → kind_sort k < 37
 kind_below (Reserved k) = omega (arith, keyword_below k)
@@ -214,19 +223,11 @@ sort_below (w ∷ ws) = kind_below w.kind
 at_all : (f : ℕ → Bool) (n k : ℕ) → all f n ≡ true → k < n → f k ≡ true
 at_all f n k e h = (Decides-below_and f (λ m. f m ≡ true) (all f) (λ m. (λ x. x, λ x. x)) refl (λ m. refl) n).0 e k h
 
-not_both : (x y : Bool) → not (x && y) ≡ true → y ≡ true → x ≡ false
-not_both true y e h = absurd (both_ways y (not-true y e) h)
-not_both false y e h = refl
-
-not_or : (x y : Bool) → (not x || y) ≡ true → x ≡ true → y ≡ true
-not_or true y e h = e
-not_or false y e h = absurd (false≢true h)
-
 apart : (p q : ℕ → Bool) → disjoint p q ≡ true → Apart p q
-apart p q e ws = not_both (p (sort ws)) (q (sort ws)) (at_all (λ n. not (p n && q n)) 37 (sort ws) e (sort_below ws))
+apart p q e ws h = false_from_ne_true _ (λ x. both_ways _ (not-true _ (at_all (λ n. not (p n && q n)) 37 (sort ws) e (sort_below ws))) (and_from _ _ x h))
 
 pub each : (p q : ℕ → Bool) → implies p q ≡ true → Implies p q
-each p q e ws = not_or (p (sort ws)) (q (sort ws)) (at_all (λ n. not (p n) || q n) 37 (sort ws) e (sort_below ws))
+each p q e ws h = true_from_ne_false _ (λ x. both_ways _ (or_from _ _ (not_from_true _ h) x) (at_all (λ n. not (p n) || q n) 37 (sort ws) e (sort_below ws)))
 
 -- what the two parts of a test tell
 parts_of : {A B : Type 0} {x y : Bool} → (x ≡ true → A) → (y ≡ true → B) → (x && y) ≡ true → A × B

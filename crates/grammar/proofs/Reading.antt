@@ -2,19 +2,18 @@
 use Rattle.std.proofs.Common.{◌≡◌, ℕ, zero, suc, ◌<◌, ◌≤◌, max, Bool, true, false, cond, ◌&&◌, ◌||◌, eqb, List, [], ◌∷◌, ◌++◌, length, sym, refl, ap, ◌∙◌, subst, subst₂, inl, inr, append_assoc, append-nil, arith, length-append}
 use mathlib.Core.Path.{fun_ext}
 use mathlib.Core.Bool.{or-false}
-use Rattle.std.proofs.lemmas.Bool.{both_ways, false≢true, not-true, not-false, eqb-true, ne_eqb, and_parts, and_right, or_parts, or_from, not_from_false}
+use Rattle.std.proofs.lemmas.Bool.{both_ways, false_from_ne_true, and_from, not-true, not-false, eqb-true, and_parts, and_right, or_parts, or_from, not_from_false}
 use Rattle.words.specs.declared.token.Sign.{Sign}
 use Rattle.words.specs.declared.token.Sign.TheVariants.{Dollar}
-use Rattle.words.specs.declared.token.Keyword.{Keyword}
 use Rattle.words.specs.declared.token.Kind.{Kind}
 use Rattle.words.specs.declared.token.Kind.TheVariants.{Name, Mark}
 use Rattle.words.specs.declared.token.Token.{Token}
 use Rattle.grammar.specs.Rules.{Part, Rule, mark, keyword, name, integer, ◌then◌, maybe, many, either, fork, series, part, inside}
-use Rattle.grammar.specs.Sorts.{integer_sort, keyword_sort, sign_sort, end_sort, sort, second, nullable, starts, opens}
+use Rattle.grammar.specs.Sorts.{integer_sort, sign_sort, end_sort, sort, second, nullable, starts, opens}
 use Rattle.grammar.specs.Trees.{word_of, Tree, words, depth, mark_at, keyword_at, name_at, integer_at, both, none, some, end, more, left, right, one, other, last, closing, next, nested}
-use Rattle.grammar.specs.Reading.{Out, got, wrong, deep, and_then, map_out, mark_of, read_mark, read_keyword, read_name, read_integer, read_many, series_on, read_series, plain, read_with, read_part, read}
-use Rattle.grammar.proofs.Checks.{continues, single, pairs, begins, Apart, Ok, sign_below, keyword_below, ok_inside, inside_begins, inside_closes, opens_no_end}
-use Rattle.grammar.proofs.Shapes.{Shape, shape, first_word, two_words, Leaf, leaf_mark, leaf_keyword, leaf_name, leaf_integer, sample, begun}
+use Rattle.grammar.specs.Reading.{Out, got, wrong, deep, and_then, map_out, IsWord, read_word, read_many, series_on, read_series, plain, read_with, read_part, read}
+use Rattle.grammar.proofs.Checks.{continues, single, pairs, begins, Apart, Ok, word_ok, word_not_nullable, word_no_end, ok_inside, inside_begins, inside_closes, opens_no_end}
+use Rattle.grammar.proofs.Shapes.{Shape, shape, first_word, two_words, Leaf, leaf, sample, begun}
 use Rattle.grammar.proofs.Steps.{Hit, hit_sort, hit_second, hit_under, Goes, Fails, Done, Reads, Only, maps, seqs}
 
 -- a tree's first word, where the tree has one
@@ -62,37 +61,17 @@ place_of [] = 0
 place_of (w ∷ ws) = w.place
 
 -- single words are told apart by their kinds and places
-same_mark : {s : Sign} (t u : Tree (mark s)) (vs us : List Token) → words t ++ vs ≡ words u ++ us → t ≡ u
+same_word : {r : Rule} → IsWord r → (t u : Tree r) (vs us : List Token) → words t ++ vs ≡ words u ++ us → t ≡ u
 unfolding words
-same_mark (mark_at p) (mark_at q) vs us e = ap mark_at (ap place_of e)
+same_word w (mark_at p) (mark_at q) vs us e = ap mark_at (ap place_of e)
+same_word w (keyword_at p) (keyword_at q) vs us e = ap keyword_at (ap place_of e)
+same_word w (name_at p n) (name_at q m) vs us e = let k = ap kind_of e in let l = ap place_of e in cc
+same_word w (integer_at p n) (integer_at q m) vs us e = let k = ap kind_of e in let l = ap place_of e in cc
+same_word w _ u vs us e = absurd w
 
-same_keyword_at : {k : Keyword} (t u : Tree (keyword k)) (vs us : List Token) → words t ++ vs ≡ words u ++ us → t ≡ u
-unfolding words
-same_keyword_at (keyword_at p) (keyword_at q) vs us e = ap keyword_at (ap place_of e)
-
-same_name : (t u : Tree name) (vs us : List Token) → words t ++ vs ≡ words u ++ us → t ≡ u
-unfolding words
-same_name (name_at p n) (name_at q m) vs us e = let k = ap kind_of e in let l = ap place_of e in cc
-
-same_integer : (t u : Tree integer) (vs us : List Token) → words t ++ vs ≡ words u ++ us → t ≡ u
-unfolding words
-same_integer (integer_at p n) (integer_at q m) vs us e = let k = ap kind_of e in let l = ap place_of e in cc
-
-mark_reads : (n : ℕ) (s : Sign) (ws : List Token) → Reads n (mark s) ws (read_mark s ws)
-mark_reads n s [] = refused n [] tt refl (ne_eqb end_sort (sign_sort s) (λ e. omega (arith, sign_below s)))
-mark_reads n s (w ∷ ws) = leaf_reads n w.kind w.place ws tt refl same_mark _ (leaf_mark s w.kind w.place ws)
-
-keyword_reads : (n : ℕ) (c : Keyword) (ws : List Token) → Reads n (keyword c) ws (read_keyword c ws)
-keyword_reads n c [] = refused n [] tt refl (ne_eqb end_sort (keyword_sort c) (λ e. omega (arith, keyword_below c)))
-keyword_reads n c (w ∷ ws) = leaf_reads n w.kind w.place ws tt refl same_keyword_at _ (leaf_keyword c w.kind w.place ws)
-
-name_reads : (n : ℕ) (ws : List Token) → Reads n name ws (read_name ws)
-name_reads n [] = refused n [] tt refl refl
-name_reads n (w ∷ ws) = leaf_reads n w.kind w.place ws tt refl same_name _ (leaf_name w.kind w.place ws)
-
-integer_reads : (n : ℕ) (ws : List Token) → Reads n integer ws (read_integer ws)
-integer_reads n [] = refused n [] tt refl refl
-integer_reads n (w ∷ ws) = leaf_reads n w.kind w.place ws tt refl same_integer _ (leaf_integer w.kind w.place ws)
+word_reads : (n : ℕ) (r : Rule) → IsWord r → (ws : List Token) → Reads n r ws (read_word r ws)
+word_reads n r c [] = refused n [] (word_ok r c) (word_not_nullable r c) (word_no_end r c)
+word_reads n r c (w ∷ ws) = leaf_reads n w.kind w.place ws (word_ok r c) (word_not_nullable r c) (same_word c) _ (leaf r c w.kind w.place ws)
 
 -- what cannot continue a and then b
 behind_of : (a : Rule) {b : Rule} (y : Tree b) → Ok b → Apart (continues a) (starts b) → (after : List Token) → (nullable b ≡ true → continues a (sort after) ≡ false) → continues a (sort (words y ++ after)) ≡ false
@@ -103,8 +82,7 @@ behind_of a {b} y k apart after f =
     ]
 
 and_rest : (x y : Bool) → (x && y) ≡ false → x ≡ true → y ≡ false
-and_rest true y e h = e
-and_rest false y e h = absurd (false≢true h)
+and_rest x y e h = false_from_ne_true y (λ q. both_ways (x && y) e (and_from x y h q))
 
 then_reads : {a b : Rule} (n : ℕ) (ws : List Token) → Ok (a then b) → (o : Out (Tree a)) → Reads n a ws o → (k : List Token → Out (Tree b)) → ((t : Tree a) (rest : List Token) → ws ≡ words t ++ rest → Reads n b rest (k rest)) → Reads n (a then b) ws (and_then o (λ t us. map_out (both t) (k us)))
 unfolding words depth
@@ -197,10 +175,6 @@ second_sort : (ws : List Token) → (us : List Token) × (second ws ≡ sort us)
 second_sort [] = ([], refl)
 second_sort (w ∷ ws) = (ws, refl)
 
-contra : (x y : Bool) → (x ≡ true → y ≡ true) → y ≡ false → x ≡ false
-contra true y f e = absurd (both_ways y e (f refl))
-contra false y f e = refl
-
 fork_reads : {a b : Rule} (n : ℕ) (ws : List Token) → Ok (fork a b) → (o : Out (Tree a)) → Reads n a ws o → (q : Out (Tree b)) → Reads n b ws q → (c : Bool) → plain ws ≡ c → Reads n (fork a b) ws (cond c (map_out one o) (map_out other q))
 unfolding words depth
 fork_reads {a} {b} n ws (ka, (kb, (za, (zb, (int, (sa, (pa, (sb, (pb, (ba, (bb, (ca, cb)))))))))))) o x q y true c = maps n n [] ws ws one (λ t. refl) (λ t d. d) (λ t d. d) (inl refl) refl back o x
@@ -209,7 +183,7 @@ fork_reads {a} {b} n ws (ka, (kb, (za, (zb, (int, (sa, (pa, (sb, (pb, (ba, (bb, 
     no_dollar =
         let (us, e) = second_sort ws in
         subst (λ m. pairs b integer_sort m ≡ false) (sym e)
-        (contra _ _ (pb us) (subst (λ m. eqb m (sign_sort Dollar) ≡ false) e (not-true _ (and_parts (eqb (sort ws) integer_sort) _ c).1)))
+        (false_from_ne_true _ (λ x. both_ways _ (subst (λ m. eqb m (sign_sort Dollar) ≡ false) e (not-true _ (and_parts (eqb (sort ws) integer_sort) _ c).1)) (pb us x)))
 
     back : (us rest : List Token) → ws ≡ us ++ rest → Only n a us rest → (u : Tree (fork a b)) → Hit (fork a b) (words u) us rest → (v : Tree a) × (u ≡ one v) × Hit a (words v) us rest
     back us rest e _ (one v) h = (v, refl, hit_under a (λ m f. (or_parts _ _ f).0) h)
@@ -251,9 +225,9 @@ Told s us (got t rest) = eqb (sort us) (sign_sort s) ≡ true
 Told s us (wrong rest) = eqb (sort us) (sign_sort s) ≡ false
 Told s us (deep rest) = ⊥
 
-told : (s : Sign) (us : List Token) → Told s us (read_mark s us)
-told s [] = ne_eqb end_sort (sign_sort s) (λ e. omega (arith, sign_below s))
-told s (w ∷ us) = go (mark_of s w us w.kind) (leaf_mark s w.kind w.place us)
+told : (s : Sign) (us : List Token) → Told s us (read_word (mark s) us)
+told s [] = word_no_end (mark s) tt
+told s (w ∷ us) = go (read_word (mark s) (w ∷ us)) (leaf (mark s) tt w.kind w.place us)
   where
     go : (o : Out (Tree (mark s))) → Leaf (mark s) w.kind w.place us o → Told s (w ∷ us) o
     go (got t rest) l = subst (λ ws. starts (mark s) (sort ws) ≡ true) l.1 (subst (λ ws. starts (mark s) (sort ws) ≡ true) (append-nil (words t)) (starts_first t tt refl []))
@@ -288,14 +262,14 @@ module _ (a : Rule) (s : Sign) (b : Rule) (n : ℕ) (k : Ok (series a s b)) (f :
         let h = some_word q tt refl in
         omega arith
 
-    onwards_reads : (t : Tree a) (us : List Token) → ws ≡ words t ++ us → Reads n (maybe (onward a s b)) us (onwards (read_series a s b f g m) us (read_mark s us))
+    onwards_reads : (t : Tree a) (us : List Token) → ws ≡ words t ++ us → Reads n (maybe (onward a s b)) us (onwards (read_series a s b f g m) us (read_word (mark s) us))
     unfolding onwards
     onwards_reads t us e =
-        maybe_reads n us (ok_onward, refl) (and_then (read_mark s us) (λ q vs. map_out (both q) (read_series a s b f g m vs)))
-        (then_reads n us ok_onward (read_mark s us) (mark_reads n s us) (read_series a s b f g m) (λ q vs d. on vs (shorter t us e q vs d)))
+        maybe_reads n us (ok_onward, refl) (and_then (read_word (mark s) us) (λ q vs. map_out (both q) (read_series a s b f g m vs)))
+        (then_reads n us ok_onward (read_word (mark s) us) (word_reads n (mark s) tt us) (read_series a s b f g m) (λ q vs d. on vs (shorter t us e q vs d)))
         (starts (onward a s b) (sort us)) refl
 
-    series_step : (c : Bool) → starts b (sort ws) ≡ c → Reads n (series a s b) ws (cond c (map_out closing (g ws)) (and_then (f ws) (λ t us. series_on a s b (read_series a s b f g m) t us (read_mark s us))))
+    series_step : (c : Bool) → starts b (sort ws) ≡ c → Reads n (series a s b) ws (cond c (map_out closing (g ws)) (and_then (f ws) (λ t us. series_on a s b (read_series a s b f g m) t us (read_word (mark s) us))))
     unfolding words depth link
     series_step true c = maps n n [] ws ws closing (λ t. refl) (λ t d. d) (λ t d. d) (inl refl) refl back (g ws) (each_b ws)
       where
@@ -307,12 +281,12 @@ module _ (a : Rule) (s : Sign) (b : Rule) (n : ℕ) (k : Ok (series a s b)) (f :
         back us rest e _ (closing v) h = (v, refl, hit_under b (λ x e. (or_parts (continues a (sort x)) (continues b (sort x)) (or_parts (eqb (sort x) (sign_sort s)) _ e).1).1) h)
         back us rest e _ (next v p u) h = absurd (no_a us rest (word_of (Mark s) p ∷ words u) e v h)
     series_step false c =
-        subst (Reads n (series a s b) ws) (sym (ap (and_then (f ws)) (fun_ext (λ t. fun_ext (λ us. as_onwards (read_series a s b f g m) t us (read_mark s us) (told s us))))))
+        subst (Reads n (series a s b) ws) (sym (ap (and_then (f ws)) (fun_ext (λ t. fun_ext (λ us. as_onwards (read_series a s b f g m) t us (read_word (mark s) us) (told s us))))))
         (seqs n ws link link_words link_depth none refl
         (λ y after e.
         let p = or_parts (eqb (sort after) (sign_sort s)) (continues a (sort after) || continues b (sort after)) e in
         (behind_of a y (ok_onward, refl) apart after (λ _. (or_parts _ _ p.1).0), search (or_from, and_right)))
-        split (λ t us. onwards (read_series a s b f g m) us (read_mark s us)) (f ws) (each ws) onwards_reads)
+        split (λ t us. onwards (read_series a s b f g m) us (read_word (mark s) us)) (f ws) (each ws) onwards_reads)
       where
         apart : Apart (continues a) (starts (maybe (onward a s b)))
         apart us e = subst (λ x. continues a x ≡ false) (sym (eqb-true (sort us) (sign_sort s) (sym (or-false (eqb (sort us) (sign_sort s))) ∙ e))) k.1.1.1.1.1.0
@@ -331,10 +305,10 @@ module _ (a : Rule) (s : Sign) (b : Rule) (n : ℕ) (k : Ok (series a s b)) (f :
 module _ (n : ℕ) (inner : (p : Part) → List Token → Out (Tree (part p))) (each : (p : Part) (ws : List Token) → Reads n (part p) ws (inner p ws)) where
   pub rule_reads : (r : Rule) → Ok r → (ws : List Token) → Reads n r ws (read_with inner r ws)
   unfolding read_with
-  rule_reads (mark s) k ws = mark_reads n s ws
-  rule_reads (keyword c) k ws = keyword_reads n c ws
-  rule_reads name k ws = name_reads n ws
-  rule_reads integer k ws = integer_reads n ws
+  rule_reads (mark s) k ws = word_reads n (mark s) tt ws
+  rule_reads (keyword c) k ws = word_reads n (keyword c) tt ws
+  rule_reads name k ws = word_reads n name tt ws
+  rule_reads integer k ws = word_reads n integer tt ws
   rule_reads (a then b) k ws = then_reads n ws k (read_with inner a ws) (rule_reads a k.0 ws) (read_with inner b) (λ t rest e. rule_reads b k.1.0 rest)
   rule_reads (maybe a) k ws = maybe_reads n ws k (read_with inner a ws) (rule_reads a k.0 ws) (starts a (sort ws)) refl
   rule_reads (many a) k ws = many_reads n k (read_with inner a) (rule_reads a k.0) (length ws) ws (omega arith)

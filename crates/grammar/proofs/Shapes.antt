@@ -1,18 +1,16 @@
 -- The first words of a tree, and trees that begin with a given word. Assumes nothing.
-use Rattle.std.proofs.Common.{◌≡◌, ℕ, Bool, true, false, cond, eqb, ◌⊎◌, List, [], ◌∷◌, ◌++◌, sym, refl, ap, ◌∙◌, inl, inr, arith}
+use Rattle.std.proofs.Common.{◌≡◌, ℕ, Bool, true, false, if◌then◌else◌, eqb, Some, None, eqb-true, ◌⊎◌, List, [], ◌∷◌, ◌++◌, sym, refl, ap, ◌∙◌, inl, inr, arith}
 use mathlib.Core.Bool.{or-false}
-use Rattle.std.proofs.lemmas.Bool.{both_ways, false≢true, eq-eqb, ne_eqb, eqb-false, and_parts, and_from, or_cases, or_left, or_right}
+use Rattle.std.proofs.lemmas.Bool.{both_ways, false≢true, eq-eqb, ne_eqb, and_parts, and_from, or_cases, or_left, or_right}
 use Rattle.words.specs.declared.token.Sign.{Sign}
-use Rattle.words.specs.declared.token.Keyword.{Keyword}
 use Rattle.words.specs.declared.token.Kind.{Kind}
 use Rattle.words.specs.declared.token.Kind.TheVariants.{Reserved, Name, Integer, Mark}
-use Rattle.words.specs.Codes.{sign_code, keyword_code, same_sign, same_keyword}
 use Rattle.words.specs.declared.token.Token.{Token}
 use Rattle.grammar.specs.Rules.{Part, Rule, mark, keyword, name, integer, ◌then◌, maybe, many, either, fork, series, part, inside}
 use Rattle.grammar.specs.Sorts.{name_sort, integer_sort, sign_sort, keyword_sort, kind_sort, sort, second, nullable, starts}
 use Rattle.grammar.specs.Trees.{word_of, Tree, words, depth, mark_at, keyword_at, name_at, integer_at, both, none, some, end, more, left, right, one, other, last, closing, next, nested}
-use Rattle.grammar.specs.Reading.{Out, got, wrong, deep, mark_of, keyword_of, name_of, integer_of}
-use Rattle.grammar.proofs.Checks.{single, pairs, shallow, begins, Ok, keyword_below, same_sign_lem, same_keyword_lem, ok_inside, inside_opens, inside_none}
+use Rattle.grammar.specs.Reading.{Out, got, wrong, deep, IsWord, word_out, read_word}
+use Rattle.grammar.proofs.Checks.{single, pairs, shallow, begins, Ok, is_mark, is_keyword, ok_inside, inside_opens, inside_none}
 
 -- what the tests of a rule say of the words behind a first word of sort n
 abbrev pub Behind : Rule → ℕ → List Token → Type 0
@@ -125,41 +123,27 @@ Leaf r k p ws (got t rest) = (rest ≡ ws) × (words t ≡ word_of k p ∷ []) �
 Leaf r k p ws (wrong rest) = (rest ≡ word_of k p ∷ ws) × (starts r (kind_sort k) ≡ false)
 Leaf r k p ws (deep rest) = ⊥
 
-pub leaf_mark : (s : Sign) (k : Kind) (p : ℕ) (ws : List Token) → Leaf (mark s) k p ws (mark_of s (word_of k p) ws k)
+pub leaf : (r : Rule) → IsWord r → (k : Kind) (p : ℕ) (ws : List Token) → Leaf r k p ws (read_word r (word_of k p ∷ ws))
 unfolding words depth
-leaf_mark s (Reserved c) p ws = (refl, ne_eqb (keyword_sort c) (sign_sort s) (λ e. omega (arith, keyword_below c)))
-leaf_mark s (Name n) p ws = (refl, ne_eqb name_sort (sign_sort s) (λ e. omega arith))
-leaf_mark s (Integer v) p ws = (refl, ne_eqb integer_sort (sign_sort s) (λ e. omega arith))
-leaf_mark s (Mark m) p ws = go (same_sign m s) refl
+leaf (mark s) e k p ws = go (eqb (kind_sort k) (sign_sort s)) refl
   where
-    go : (b : Bool) → same_sign m s ≡ b → Leaf (mark s) (Mark m) p ws (cond b (got (mark_at p) ws) (wrong (word_of (Mark m) p ∷ ws)))
-    go true e = (refl, ap (λ x. word_of (Mark x) p ∷ []) (sym (same_sign_lem m s e)), refl)
-    go false e = (refl, ne_eqb (sign_sort m) (sign_sort s) (λ x. eqb-false (sign_code m) (sign_code s) e (omega arith)))
-
-pub leaf_keyword : (c : Keyword) (k : Kind) (p : ℕ) (ws : List Token) → Leaf (keyword c) k p ws (keyword_of c (word_of k p) ws k)
-unfolding words depth
-leaf_keyword c (Reserved m) p ws = go (same_keyword m c) refl
+    go : (b : Bool) → eqb (kind_sort k) (sign_sort s) ≡ b → Leaf (mark s) k p ws (word_out (if b then Some (mark_at p) else None) (word_of k p) ws)
+    go true e = (refl, ap (λ x. word_of x p ∷ []) (sym (is_mark s k (eqb-true _ _ e))), refl)
+    go false e = (refl, e)
+leaf (keyword c) e k p ws = go (eqb (kind_sort k) (keyword_sort c)) refl
   where
-    go : (b : Bool) → same_keyword m c ≡ b → Leaf (keyword c) (Reserved m) p ws (cond b (got (keyword_at p) ws) (wrong (word_of (Reserved m) p ∷ ws)))
-    go true e = (refl, ap (λ x. word_of (Reserved x) p ∷ []) (sym (same_keyword_lem m c e)), refl)
-    go false e = (refl, ne_eqb (keyword_sort m) (keyword_sort c) (λ x. eqb-false (keyword_code m) (keyword_code c) e (omega arith)))
-leaf_keyword c (Name n) p ws = (refl, ne_eqb name_sort (keyword_sort c) (λ e. omega arith))
-leaf_keyword c (Integer v) p ws = (refl, ne_eqb integer_sort (keyword_sort c) (λ e. omega arith))
-leaf_keyword c (Mark m) p ws = (refl, ne_eqb (sign_sort m) (keyword_sort c) (λ e. omega (arith, keyword_below c)))
-
-pub leaf_name : (k : Kind) (p : ℕ) (ws : List Token) → Leaf name k p ws (name_of (word_of k p) ws k)
-unfolding words depth
-leaf_name (Reserved m) p ws = (refl, ne_eqb (keyword_sort m) name_sort (λ e. omega arith))
-leaf_name (Name n) p ws = (refl, refl, refl)
-leaf_name (Integer v) p ws = (refl, refl)
-leaf_name (Mark m) p ws = (refl, ne_eqb (sign_sort m) name_sort (λ e. omega arith))
-
-pub leaf_integer : (k : Kind) (p : ℕ) (ws : List Token) → Leaf integer k p ws (integer_of (word_of k p) ws k)
-unfolding words depth
-leaf_integer (Reserved m) p ws = (refl, ne_eqb (keyword_sort m) integer_sort (λ e. omega arith))
-leaf_integer (Name n) p ws = (refl, refl)
-leaf_integer (Integer v) p ws = (refl, refl, refl)
-leaf_integer (Mark m) p ws = (refl, ne_eqb (sign_sort m) integer_sort (λ e. omega arith))
+    go : (b : Bool) → eqb (kind_sort k) (keyword_sort c) ≡ b → Leaf (keyword c) k p ws (word_out (if b then Some (keyword_at p) else None) (word_of k p) ws)
+    go true e = (refl, ap (λ x. word_of x p ∷ []) (sym (is_keyword c k (eqb-true _ _ e))), refl)
+    go false e = (refl, e)
+leaf name e (Name n) p ws = (refl, refl, refl)
+leaf name e (Reserved m) p ws = (refl, ne_eqb (keyword_sort m) name_sort (λ e. omega arith))
+leaf name e (Integer v) p ws = (refl, refl)
+leaf name e (Mark m) p ws = (refl, ne_eqb (sign_sort m) name_sort (λ e. omega arith))
+leaf integer e (Integer v) p ws = (refl, refl, refl)
+leaf integer e (Reserved m) p ws = (refl, ne_eqb (keyword_sort m) integer_sort (λ e. omega arith))
+leaf integer e (Name n) p ws = (refl, refl)
+leaf integer e (Mark m) p ws = (refl, ne_eqb (sign_sort m) integer_sort (λ e. omega arith))
+leaf _ e k p ws = absurd e
 
 -- a tree that does not nest
 pub sample : (r : Rule) → shallow r ≡ true → (t : Tree r) × (depth t ≡ 0)
@@ -190,10 +174,10 @@ leaf_begun r k p (deep rest) l e = absurd l
 
 pub begun : (r : Rule) (w : Token) → begins r (kind_sort w.kind) ≡ true → Begun r w
 unfolding words depth
-begun (mark s) w e = leaf_begun (mark s) w.kind w.place _ (leaf_mark s w.kind w.place []) e
-begun (keyword c) w e = leaf_begun (keyword c) w.kind w.place _ (leaf_keyword c w.kind w.place []) e
-begun name w e = leaf_begun name w.kind w.place _ (leaf_name w.kind w.place []) e
-begun integer w e = leaf_begun integer w.kind w.place _ (leaf_integer w.kind w.place []) e
+begun (mark s) w e = leaf_begun (mark s) w.kind w.place _ (leaf (mark s) tt w.kind w.place []) e
+begun (keyword c) w e = leaf_begun (keyword c) w.kind w.place _ (leaf (keyword c) tt w.kind w.place []) e
+begun name w e = leaf_begun name w.kind w.place _ (leaf name tt w.kind w.place []) e
+begun integer w e = leaf_begun integer w.kind w.place _ (leaf integer tt w.kind w.place []) e
 begun (a then b) w e =
     let h = and_parts (begins a (kind_sort w.kind)) (shallow b) e in
     let (t, vs, x, y) = begun a w h.0 in

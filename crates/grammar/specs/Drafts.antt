@@ -22,6 +22,7 @@ use Rattle.grammar.specs.declared.draft.Leaving.{Leaving}
 use Rattle.grammar.specs.declared.draft.Leaving.TheVariants.{Next, Plain, Conditions, Dead}
 use Rattle.grammar.specs.declared.draft.Step.{Step}
 use Rattle.grammar.specs.declared.draft.Exit.{Exit}
+use Rattle.grammar.specs.declared.draft.Reset.{Reset}
 use Rattle.grammar.specs.declared.draft.Terms.{Terms}
 use Rattle.grammar.specs.declared.draft.Rows.{Rows}
 use Rattle.grammar.specs.declared.draft.Draft.{Draft}
@@ -43,7 +44,7 @@ pub record RowLists : Type 0 where
   pub statements : List Statement
   pub targets : List Target
   pub exits : List Exit
-  pub resets : List Exit
+  pub resets : List Reset
   pub terms : TermLists
 
 abbrev pub row_lists : Rows → RowLists
@@ -79,7 +80,7 @@ with_target d x = record { items = d.items; steps = d.steps; statements = d.stat
 abbrev pub with_exits : RowLists → List Exit → RowLists
 with_exits d xs = record { items = d.items; steps = d.steps; statements = d.statements; targets = d.targets; exits = xs; resets = d.resets; terms = d.terms }
 
-abbrev pub with_resets : RowLists → List Exit → RowLists
+abbrev pub with_resets : RowLists → List Reset → RowLists
 with_resets d xs = record { items = d.items; steps = d.steps; statements = d.statements; targets = d.targets; exits = d.exits; resets = xs; terms = d.terms }
 
 abbrev pub with_terms : RowLists → TermLists → RowLists
@@ -104,7 +105,7 @@ ref_of (both n (some s)) = record { name = name_of n; subscript = Some (subscrip
 abbrev pub root : TermLists → ℕ
 root d = length d.nodes
 
-abbrev pub node_at : ℕ → ℕ → Form → Node
+abbrev pub node_at : ℕ → Option ℕ → Form → Node
 node_at p k f = record { place = p; driven = k; form = f }
 
 abbrev pub digit_at : Option ℕ → Tree integer → Digit
@@ -118,54 +119,54 @@ abbrev pub digit_rows : Tree integers → TermLists → TermLists
 digit_rows (both i is) d = more_digits is (with_digit d (digit_at None i))
 
 -- a node over the term before it and the term now last
-abbrev pub joined : ℕ → ℕ → (ℕ → ℕ → Form) → TermLists → TermLists → TermLists
+abbrev pub joined : ℕ → Option ℕ → (ℕ → ℕ → Form) → TermLists → TermLists → TermLists
 joined p k form before d = with_node d (node_at p k (form (root before) (root d)))
 
 -- a node over the term now last
-abbrev pub under : Tree prefix_sign → ℕ → TermLists → TermLists
+abbrev pub under : Tree prefix_sign → Option ℕ → TermLists → TermLists
 under (left (mark_at p)) k d = with_node d (node_at p k (NotForm (root d)))
 under (right (left (mark_at p))) k d = with_node d (node_at p k (Reduce AndGate (root d)))
 under (right (right (left (mark_at p)))) k d = with_node d (node_at p k (Reduce OrGate (root d)))
 under (right (right (right (mark_at p)))) k d = with_node d (node_at p k (Reduce XorGate (root d)))
 
-abbrev pub literal_at : ℕ → ℕ → TermLists → TermLists
+abbrev pub literal_at : ℕ → Option ℕ → TermLists → TermLists
 literal_at p k d = with_node d (node_at p k (Literal (length d.digits)))
 
--- the rows with those of an expression behind them; k is the last target of the statement whose value it is, or 0
+-- the rows with those of an expression behind them; k is the last target of the statement whose value it is, none in a condition
 abbrev mutual
-  pub expr_rows : Tree expr → ℕ → TermLists → TermLists
+  pub expr_rows : Tree expr → Option ℕ → TermLists → TermLists
   expr_rows (both a bs) k d = more_ors bs k (or_rows a k d)
 
-  pub more_ors : Tree (many (mark Comma then or)) → ℕ → TermLists → TermLists
+  pub more_ors : Tree (many (mark Comma then or)) → Option ℕ → TermLists → TermLists
   more_ors end k d = d
   more_ors (more (both (mark_at p) a) bs) k d = more_ors bs k (joined p k CommaForm d (or_rows a k d))
 
-  pub or_rows : Tree or → ℕ → TermLists → TermLists
+  pub or_rows : Tree or → Option ℕ → TermLists → TermLists
   or_rows (both a bs) k d = more_xors bs k (xor_rows a k d)
 
-  pub more_xors : Tree (many (mark Or then xor)) → ℕ → TermLists → TermLists
+  pub more_xors : Tree (many (mark Or then xor)) → Option ℕ → TermLists → TermLists
   more_xors end k d = d
   more_xors (more (both (mark_at p) a) bs) k d = more_xors bs k (joined p k (Join OrGate) d (xor_rows a k d))
 
-  pub xor_rows : Tree xor → ℕ → TermLists → TermLists
+  pub xor_rows : Tree xor → Option ℕ → TermLists → TermLists
   xor_rows (both a bs) k d = more_ands bs k (and_rows a k d)
 
-  pub more_ands : Tree (many (mark Xor then and)) → ℕ → TermLists → TermLists
+  pub more_ands : Tree (many (mark Xor then and)) → Option ℕ → TermLists → TermLists
   more_ands end k d = d
   more_ands (more (both (mark_at p) a) bs) k d = more_ands bs k (joined p k (Join XorGate) d (and_rows a k d))
 
-  pub and_rows : Tree and → ℕ → TermLists → TermLists
+  pub and_rows : Tree and → Option ℕ → TermLists → TermLists
   and_rows (both a bs) k d = more_prefixes bs k (prefix_rows a k d)
 
-  pub more_prefixes : Tree (many (mark And then prefix)) → ℕ → TermLists → TermLists
+  pub more_prefixes : Tree (many (mark And then prefix)) → Option ℕ → TermLists → TermLists
   more_prefixes end k d = d
   more_prefixes (more (both (mark_at p) a) bs) k d = more_prefixes bs k (joined p k (Join AndGate) d (prefix_rows a k d))
 
-  pub prefix_rows : Tree prefix → ℕ → TermLists → TermLists
+  pub prefix_rows : Tree prefix → Option ℕ → TermLists → TermLists
   prefix_rows (left (nested signed (both s a))) k d = under s k (prefix_rows a k d)
   prefix_rows (right a) k d = primary_rows a k d
 
-  pub primary_rows : Tree primary → ℕ → TermLists → TermLists
+  pub primary_rows : Tree primary → Option ℕ → TermLists → TermLists
   primary_rows (left r) k d = with_node d (node_at (ref_of r).name.place k (Bits (ref_of r)))
   primary_rows (right (left (both (mark_at p) (both is q)))) k d = literal_at p k (digit_rows is d)
   primary_rows (right (right (left (both n (both s m))))) k d = with_node d (node_at (number_of n).place k (Sized (number_of n) (number_of m)))
@@ -217,7 +218,7 @@ targets_place (both r rs) = (ref_of r).name.place
 -- Statements. What is known of one before its value is read; its targets are the last.
 pub record Head : Type 0 where
   pub place : ℕ
-  pub step : ℕ
+  pub step : Option ℕ
   pub kind : StatementKind
   pub condition : Option Condition
   pub sign : ℕ
@@ -228,22 +229,22 @@ statement_at h d = record { place = h.place; step = h.step; kind = h.kind; last_
 -- a statement's value, and then the statement
 abbrev pub value_rows : Head → Tree expr → RowLists → RowLists
 value_rows h e d =
-    let after = with_terms d (expr_rows e (length d.targets) d.terms) in
+    let after = with_terms d (expr_rows e (Some (length d.targets)) d.terms) in
     with_statement after (statement_at h after)
 
 -- a condition's nodes
 abbrev pub condition_rows : Tree expr → RowLists → RowLists
-condition_rows e d = with_terms d (expr_rows e 0 d.terms)
+condition_rows e d = with_terms d (expr_rows e None d.terms)
 
 abbrev pub condition_at : ℕ → RowLists → Condition
 condition_at p d = record { place = p; node = root d.terms }
 
-abbrev pub head_at : ℕ → ℕ → StatementKind → Option Condition → ℕ → Head
+abbrev pub head_at : ℕ → Option ℕ → StatementKind → Option Condition → ℕ → Head
 head_at p s k c q = record { place = p; step = s; kind = k; condition = c; sign = q }
 
 -- behind CONTROLRESET
 abbrev pub conn_rows : Tree conn → RowLists → RowLists
-conn_rows (both ts (both (mark_at q) e)) d = value_rows (head_at (targets_place ts) 0 Connection None q) e (target_rows ts d)
+conn_rows (both ts (both (mark_at q) e)) d = value_rows (head_at (targets_place ts) None Connection None q) e (target_rows ts d)
 
 abbrev pub more_conns : Tree (many (mark Semicolon then conn)) → RowLists → RowLists
 more_conns end d = d
@@ -251,13 +252,13 @@ more_conns (more (both p c) cs) d = more_conns cs (conn_rows c d)
 
 -- in the step s
 abbrev pub stmt_rows : ℕ → Tree stmt → RowLists → RowLists
-stmt_rows s (both ts (left (both (mark_at q) e))) d = value_rows (head_at (targets_place ts) s Connection None q) e (target_rows ts d)
-stmt_rows s (both ts (right (left (both (mark_at q) e)))) d = value_rows (head_at (targets_place ts) s Transfer None q) e (target_rows ts d)
+stmt_rows s (both ts (left (both (mark_at q) e))) d = value_rows (head_at (targets_place ts) (Some s) Connection None q) e (target_rows ts d)
+stmt_rows s (both ts (right (left (both (mark_at q) e)))) d = value_rows (head_at (targets_place ts) (Some s) Transfer None q) e (target_rows ts d)
 stmt_rows s (both ts (right (right (both (mark_at p) (both o (both c (both z (both (mark_at q) e)))))))) d =
     let after = condition_rows c (target_rows ts d) in
-    value_rows (head_at (targets_place ts) s Transfer (Some (condition_at p after)) q) e after
+    value_rows (head_at (targets_place ts) (Some s) Transfer (Some (condition_at p after)) q) e after
 
--- exits of the step s, and steps that a reset enters, where s is 0
+-- exits of the step s
 abbrev pub exit_at : ℕ → Option ℕ → Tree integer → Exit
 exit_at s c i = record { step = s; comma = c; entered = number_of i }
 
@@ -311,8 +312,16 @@ draft_lists d = record { title = d.title; clock = d.clock; rows = row_lists d.ro
 abbrev pub no_rows : RowLists
 no_rows = record { items = []; steps = []; statements = []; targets = []; exits = []; resets = []; terms = record { nodes = []; digits = [] } }
 
+-- steps that CONTROLRESET enters
+abbrev pub reset_at : Option ℕ → Tree integer → Reset
+reset_at c i = record { comma = c; entered = number_of i }
+
+abbrev pub more_resets : Tree (many (mark Comma then integer)) → List Reset → List Reset
+more_resets end xs = xs
+more_resets (more (both (mark_at p) i) is) xs = more_resets is (xs ++ reset_at (Some p) i ∷ [])
+
 abbrev pub reset_rows : Tree integers → RowLists → RowLists
-reset_rows is d = with_resets d (exit_rows 0 is d.resets)
+reset_rows (both i is) d = with_resets d (more_resets is (d.resets ++ reset_at None i ∷ []))
 
 unfoldable pub draft_of : Tree unit → DraftLists
 draft_of (both a (both b (both n (both c (both d (both ds (both e (both f (both g (both k (both h (both s (both ss (both i (both j (both l (both is (both m (both cs z))))))))))))))))))) =

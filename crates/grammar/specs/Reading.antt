@@ -1,15 +1,13 @@
 -- How a rule is read from the front of a list of words, by the next word and at a fork by the next two.
 -- The contracts of the single readers cite it; what is promised of a whole text (Promise) does not rest on it. Assumes nothing.
-use Rattle.std.specs.Prelude.{ℕ, zero, suc, Bool, cond, not, ◌&&◌, List, [], ◌∷◌, length, ◌==◌}
-use Rattle.words.specs.Codes.{same_sign, same_keyword}
+use Rattle.std.specs.Prelude.{ℕ, zero, suc, Bool, cond, if◌then◌else◌, not, ◌&&◌, List, [], ◌∷◌, length, ◌==◌, Option, Some, None}
 use Rattle.words.specs.declared.token.Sign.{Sign}
 use Rattle.words.specs.declared.token.Sign.TheVariants.{Dollar}
-use Rattle.words.specs.declared.token.Keyword.{Keyword}
 use Rattle.words.specs.declared.token.Kind.{Kind}
-use Rattle.words.specs.declared.token.Kind.TheVariants.{Reserved, Name, Integer, Mark}
+use Rattle.words.specs.declared.token.Kind.TheVariants.{Name, Integer}
 use Rattle.words.specs.declared.token.Token.{Token}
 use Rattle.grammar.specs.Rules.{Part, Rule, mark, keyword, name, integer, ◌then◌, maybe, many, either, fork, series, part, inside}
-use Rattle.grammar.specs.Sorts.{integer_sort, sign_sort, sort, second, starts, opens}
+use Rattle.grammar.specs.Sorts.{integer_sort, keyword_sort, sign_sort, kind_sort, sort, second, starts, opens}
 use Rattle.grammar.specs.Trees.{Tree, mark_at, keyword_at, name_at, integer_at, both, none, some, end, more, left, right, one, other, last, closing, next, nested}
 
 -- what reading comes to: a tree and the words left; or the words left where the first of them continues nothing, or nests too deep
@@ -29,46 +27,39 @@ map_out f (got t ws) = got (f t) ws
 map_out f (wrong ws) = wrong ws
 map_out f (deep ws) = deep ws
 
--- single words
-abbrev pub mark_of : (s : Sign) → Token → List Token → Kind → Out (Tree (mark s))
-mark_of s w ws (Reserved k) = wrong (w ∷ ws)
-mark_of s w ws (Name n) = wrong (w ∷ ws)
-mark_of s w ws (Integer v) = wrong (w ∷ ws)
-mark_of s w ws (Mark m) = cond (same_sign m s) (got (mark_at w.place) ws) (wrong (w ∷ ws))
+-- a rule that asks for a single word
+abbrev pub IsWord : Rule → Type 0
+IsWord (mark s) = Unit {0}
+IsWord (keyword k) = Unit {0}
+IsWord name = Unit {0}
+IsWord integer = Unit {0}
+IsWord _ = ⊥
 
-abbrev pub read_mark : (s : Sign) → List Token → Out (Tree (mark s))
-read_mark s [] = wrong []
-read_mark s (w ∷ ws) = mark_of s w ws w.kind
+-- the tree of a name, of an integer, by its place
+abbrev pub name_tree : ℕ → Kind → Option (Tree name)
+name_tree p (Name n) = Some (name_at p n)
+name_tree p _ = None
 
-abbrev pub keyword_of : (k : Keyword) → Token → List Token → Kind → Out (Tree (keyword k))
-keyword_of k w ws (Reserved m) = cond (same_keyword m k) (got (keyword_at w.place) ws) (wrong (w ∷ ws))
-keyword_of k w ws (Name n) = wrong (w ∷ ws)
-keyword_of k w ws (Integer v) = wrong (w ∷ ws)
-keyword_of k w ws (Mark m) = wrong (w ∷ ws)
+abbrev pub integer_tree : ℕ → Kind → Option (Tree integer)
+integer_tree p (Integer v) = Some (integer_at p v)
+integer_tree p _ = None
 
-abbrev pub read_keyword : (k : Keyword) → List Token → Out (Tree (keyword k))
-read_keyword k [] = wrong []
-read_keyword k (w ∷ ws) = keyword_of k w ws w.kind
+-- the tree of the word, where the rule asks for a single word and this is such a word
+abbrev pub word_tree : (r : Rule) → Token → Option (Tree r)
+word_tree (mark s) w = if kind_sort w.kind == sign_sort s then Some (mark_at w.place) else None
+word_tree (keyword k) w = if kind_sort w.kind == keyword_sort k then Some (keyword_at w.place) else None
+word_tree name w = name_tree w.place w.kind
+word_tree integer w = integer_tree w.place w.kind
+word_tree _ w = None
 
-abbrev pub name_of : Token → List Token → Kind → Out (Tree name)
-name_of w ws (Reserved m) = wrong (w ∷ ws)
-name_of w ws (Name n) = got (name_at w.place n) ws
-name_of w ws (Integer v) = wrong (w ∷ ws)
-name_of w ws (Mark m) = wrong (w ∷ ws)
+-- a single word: it is passed where it has a tree, and continues nothing where it has none
+abbrev pub word_out : {A : Type 0} → Option A → Token → List Token → Out A
+word_out (Some t) w ws = got t ws
+word_out None w ws = wrong (w ∷ ws)
 
-abbrev pub read_name : List Token → Out (Tree name)
-read_name [] = wrong []
-read_name (w ∷ ws) = name_of w ws w.kind
-
-abbrev pub integer_of : Token → List Token → Kind → Out (Tree integer)
-integer_of w ws (Reserved m) = wrong (w ∷ ws)
-integer_of w ws (Name n) = wrong (w ∷ ws)
-integer_of w ws (Integer v) = got (integer_at w.place v) ws
-integer_of w ws (Mark m) = wrong (w ∷ ws)
-
-abbrev pub read_integer : List Token → Out (Tree integer)
-read_integer [] = wrong []
-read_integer (w ∷ ws) = integer_of w ws w.kind
+abbrev pub read_word : (r : Rule) → List Token → Out (Tree r)
+read_word r [] = wrong []
+read_word r (w ∷ ws) = word_out (word_tree r w) w ws
 
 -- {a}, at most so many times: as long as the next word begins an a
 unfoldable pub read_many : (a : Rule) → (List Token → Out (Tree a)) → ℕ → List Token → Out (Tree (many a))
@@ -85,7 +76,7 @@ unfoldable pub read_series : (a : Rule) (s : Sign) (b : Rule) → (List Token �
 read_series a s b f g zero ws = wrong ws
 read_series a s b f g (suc n) ws =
     cond (starts b (sort ws)) (map_out closing (g ws))
-    (and_then (f ws) (λ t us. series_on a s b (read_series a s b f g n) t us (read_mark s us)))
+    (and_then (f ws) (λ t us. series_on a s b (read_series a s b f g n) t us (read_word (mark s) us)))
 
 -- at a fork: an integer with no $ behind it
 abbrev pub plain : List Token → Bool
@@ -93,10 +84,10 @@ plain ws = sort ws == integer_sort && not (second ws == sign_sort Dollar)
 
 -- a rule, where its nesting parts are read by `inner`
 unfoldable pub read_with : ((p : Part) → List Token → Out (Tree (part p))) → (r : Rule) → List Token → Out (Tree r)
-read_with inner (mark s) ws = read_mark s ws
-read_with inner (keyword k) ws = read_keyword k ws
-read_with inner name ws = read_name ws
-read_with inner integer ws = read_integer ws
+read_with inner (mark s) ws = read_word (mark s) ws
+read_with inner (keyword k) ws = read_word (keyword k) ws
+read_with inner name ws = read_word name ws
+read_with inner integer ws = read_word integer ws
 read_with inner (a then b) ws = and_then (read_with inner a ws) (λ t us. map_out (both t) (read_with inner b us))
 read_with inner (maybe a) ws = cond (starts a (sort ws)) (map_out some (read_with inner a ws)) (got none ws)
 read_with inner (many a) ws = read_many a (read_with inner a) (length ws) ws

@@ -1,23 +1,23 @@
 //! A draft: what a module text says, row by row, as it is written and before any rule is held against it.
 //!
-//! Rows of each table stand in the order of the text. They count from 1, and 0 is none.
+//! Rows of each table stand in the order of the text, and count from 1.
 
 /// A name: a part of the text.
-#[derive(Clone, Copy)]
+#[derive(Clone, Copy, PartialEq, Eq)]
 pub struct Name {
     pub place: usize,
     pub len: usize,
 }
 
 /// An integer as it is written.
-#[derive(Clone, Copy)]
+#[derive(Clone, Copy, PartialEq, Eq)]
 pub struct Number {
     pub place: usize,
     pub value: u16,
 }
 
 /// The class of a symbol.
-#[derive(Clone, Copy)]
+#[derive(Clone, Copy, PartialEq, Eq)]
 pub enum Class {
     Input,
     Output,
@@ -26,7 +26,7 @@ pub enum Class {
 }
 
 /// A declared symbol. Without a width it has one bit.
-#[derive(Clone, Copy)]
+#[derive(Clone, Copy, PartialEq, Eq)]
 pub struct Item {
     pub class: Class,
     pub name: Name,
@@ -34,7 +34,7 @@ pub struct Item {
 }
 
 /// `[first]`, where the last is the first, or `[first : last]`. Its place is that of the `[`.
-#[derive(Clone, Copy)]
+#[derive(Clone, Copy, PartialEq, Eq)]
 pub struct Subscript {
     pub place: usize,
     pub first: u16,
@@ -42,14 +42,14 @@ pub struct Subscript {
 }
 
 /// A symbol that is named, or some bits of it.
-#[derive(Clone, Copy)]
+#[derive(Clone, Copy, PartialEq, Eq)]
 pub struct Reference {
     pub name: Name,
     pub subscript: Option<Subscript>,
 }
 
 /// An operation that joins bits.
-#[derive(Clone, Copy)]
+#[derive(Clone, Copy, PartialEq, Eq)]
 pub enum Gate {
     And,
     Or,
@@ -57,7 +57,7 @@ pub enum Gate {
 }
 
 /// What a node is. Operands are rows of nodes before it.
-#[derive(Clone, Copy)]
+#[derive(Clone, Copy, PartialEq, Eq)]
 pub enum Form {
     /// Some bits of a symbol.
     Bits(Reference),
@@ -77,23 +77,23 @@ pub enum Form {
 
 /// A name, a constant, an operator or a comma of an expression. Its place is that of the name, of the constant's
 /// first word, of the operator or of the comma. A node of a statement's value has the row of that statement's last
-/// target; a node of a condition has 0.
-#[derive(Clone, Copy)]
+/// target, which it drives; a node of a condition drives none.
+#[derive(Clone, Copy, PartialEq, Eq)]
 pub struct Node {
     pub place: usize,
-    pub driven: usize,
+    pub driven: Option<usize>,
     pub form: Form,
 }
 
 /// An integer of a bit string, with the place of the comma before it, if it is not the first.
-#[derive(Clone, Copy)]
+#[derive(Clone, Copy, PartialEq, Eq)]
 pub struct Digit {
     pub comma: Option<usize>,
     pub integer: Number,
 }
 
 /// A target of a statement, with the place of the comma before it, if it is not the first.
-#[derive(Clone, Copy)]
+#[derive(Clone, Copy, PartialEq, Eq)]
 pub struct Target {
     pub statement: usize,
     pub comma: Option<usize>,
@@ -101,25 +101,25 @@ pub struct Target {
 }
 
 /// A condition: the place of the `*` or the `/` that makes it one, and the row of its node.
-#[derive(Clone, Copy)]
+#[derive(Clone, Copy, PartialEq, Eq)]
 pub struct Condition {
     pub place: usize,
     pub node: usize,
 }
 
 /// `=` makes a connection, `<=` a transfer.
-#[derive(Clone, Copy)]
+#[derive(Clone, Copy, PartialEq, Eq)]
 pub enum StatementKind {
     Connection,
     Transfer,
 }
 
 /// A connection or a transfer. Its place is that of its first target, its sign's that of the `=` or `<=`. Behind
-/// CONTROLRESET it has step 0. Its value is the row of a node.
-#[derive(Clone, Copy)]
+/// CONTROLRESET it stands in no step. Its value is the row of a node.
+#[derive(Clone, Copy, PartialEq, Eq)]
 pub struct Statement {
     pub place: usize,
-    pub step: usize,
+    pub step: Option<usize>,
     pub kind: StatementKind,
     pub last_target: usize,
     pub condition: Option<Condition>,
@@ -128,7 +128,7 @@ pub struct Statement {
 }
 
 /// How a step is left. A branch with conditions has the row of its last exit.
-#[derive(Clone, Copy)]
+#[derive(Clone, Copy, PartialEq, Eq)]
 pub enum Leaving {
     /// To the next step: NULL, or no branch.
     Next,
@@ -141,17 +141,24 @@ pub enum Leaving {
 }
 
 /// A control step, by the integer that it is written with.
-#[derive(Clone, Copy)]
+#[derive(Clone, Copy, PartialEq, Eq)]
 pub struct Step {
     pub integer: Number,
     pub leaving: Leaving,
 }
 
-/// An integer of a branch or of CONTROLRESET, with the place of the comma before it, if it is not the first: a step
-/// that is entered, and the row of the step that is left, which is 0 at CONTROLRESET.
-#[derive(Clone, Copy)]
+/// An integer of a branch, with the place of the comma before it, if it is not the first: a step that is entered, and
+/// the row of the step that is left.
+#[derive(Clone, Copy, PartialEq, Eq)]
 pub struct Exit {
     pub step: usize,
+    pub comma: Option<usize>,
+    pub entered: Number,
+}
+
+/// An integer of CONTROLRESET, with the place of the comma before it, if it is not the first: a step that is entered.
+#[derive(Clone, Copy, PartialEq, Eq)]
+pub struct Reset {
     pub comma: Option<usize>,
     pub entered: Number,
 }
@@ -171,7 +178,7 @@ pub struct Rows {
     pub statements: Vec<Statement>,
     pub targets: Vec<Target>,
     pub exits: Vec<Exit>,
-    pub resets: Vec<Exit>,
+    pub resets: Vec<Reset>,
     pub terms: Terms,
 }
 

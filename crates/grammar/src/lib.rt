@@ -7,7 +7,7 @@ mod draft;
 
 pub use draft::{
     Class, Condition, Digit, Draft, Exit, Form, Gate, Item, Leaving, Name, Node, Number, Reference,
-    Rows, Statement, StatementKind, Step, Subscript, Target, Terms,
+    Reset, Rows, Statement, StatementKind, Step, Subscript, Target, Terms,
 };
 
 /// The laws of reading. A whole text of words is read as the module whose words they are, where that nests at most 16

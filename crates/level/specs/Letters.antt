@@ -1,5 +1,6 @@
 -- The letters 0, 1 and X, the operations on them, and the letters that bits stand for. Assumes nothing.
-use Rattle.std.specs.Prelude.{ℕ, ◌/◌, ◌%◌, ◌^◌, Bool, true, false, cond, ◌==◌}
+use Rattle.std.specs.Prelude.{ℕ, Bool, true, false, cond, ◌==◌}
+use Rattle.std.specs.Int.{bit_at}
 use Rattle.level.specs.declared.letter.Letter.{Letter}
 use Rattle.level.specs.declared.letter.Letter.TheVariants.{Zero, One, Unknown}
 
@@ -48,6 +49,10 @@ abbrev pub bool_letter : Bool → Letter
 bool_letter true = One
 bool_letter false = Zero
 
+-- the letter of a bit that is 0 or 1
+abbrev pub bit_letter : ℕ → Letter
+bit_letter n = cond (n == 1) One Zero
+
 -- the letter of a lane of a word: its bit k
 abbrev pub lane_letter : ℕ → ℕ → Letter
-lane_letter word k = cond (word / 2 ^ k % 2 == 1) One Zero
+lane_letter word k = bit_letter (bit_at word k)

@@ -1,22 +1,18 @@
 //! One lane of 0 or 1.
 ghost use Rattle.level.specs.Letters.{bool_letter};
 
-use super::{Letter, Level, LevelFault};
+use super::{Letter, Level, LevelFault, lane_of};
 
 /// One lane: false is 0, true is 1.
-#[derive(Clone, Copy)]
+#[derive(Clone, Copy, PartialEq, Eq, Debug)]
 pub struct Bit(pub bool);
 
 impl Level for Bit {
     const LANES: usize = 1;
 
-    ghost lanes = { 1 };
+    ghost LANES = { 1 };
 
     ghost letters = { λ level _. bool_letter level.0 };
-
-    fn lane_count() -> usize {
-        Self::LANES
-    }
 
     fn zero() -> Bit {
         Bit(false)
@@ -43,10 +39,7 @@ impl Level for Bit {
     }
 
     fn letter(self, lane: usize) -> Result<Letter, LevelFault> {
-        if lane < Self::LANES {
-            Ok(if self.0 { Letter::One } else { Letter::Zero })
-        } else {
-            Err(LevelFault::NoSuchLane)
-        }
+        lane_of(Self::LANES, lane)?;
+        Ok(Letter::from(self.0))
     }
 }

@@ -1,7 +1,11 @@
 //! What a level refuses.
+ghost use Rattle.std.specs.Prelude.{Some};
+ghost use Rattle.fault.specs.Print.{refusal_line};
 ghost use Rattle.level.specs.Faults.{level_told};
 
 use fault::{Fault, Layer, Refusal};
+use std::error::Error;
+use std::fmt;
 
 /// Why the letter of a lane is not told.
 #[derive(Clone, Copy, PartialEq, Eq, Debug)]
@@ -15,11 +19,18 @@ impl Fault for LevelFault {
 
     fn refusal(&self) -> Refusal {
         match self {
-            LevelFault::NoSuchLane => Refusal {
-                number: 25,
-                place: 0,
-                layer: Layer::Bench,
-            },
+            LevelFault::NoSuchLane => Layer::Bench.refusal(25),
         }
     }
 }
+
+/// The line that tells the refusal.
+impl fmt::Display for LevelFault {
+    ghost output = { λ fault. Some (refusal_line (level_told fault)) };
+
+    fn fmt<W: fmt::Write>(&self, f: &mut fmt::Formatter<W>) -> fmt::Result {
+        fmt::Display::fmt(&self.refusal(), f)
+    }
+}
+
+impl Error for LevelFault {}

@@ -1,6 +1,8 @@
 //! A letter is what one lane carries: 0, 1 or X, where X may be either.
-ghost use Rattle.std.specs.Prelude.{◌≡◌};
-ghost use Rattle.level.specs.Letters.{not_l, and_l, or_l, xor_l, symbol_of};
+ghost use Rattle.std.specs.Prelude.{◌≡◌, [], ◌∷◌, Some};
+ghost use Rattle.level.specs.Letters.{not_l, and_l, or_l, xor_l, bool_letter, symbol_of};
+
+use std::fmt;
 
 /// 0, 1 or X.
 #[derive(Clone, Copy, PartialEq, Eq, Debug)]
@@ -67,5 +69,23 @@ impl Letter {
             (a, b) if a == b => Letter::Zero,
             _ => Letter::One,
         }
+    }
+}
+
+/// The letter's character.
+impl fmt::Display for Letter {
+    ghost output = { λ letter. Some (symbol_of letter ∷ []) };
+
+    fn fmt<W: fmt::Write>(&self, f: &mut fmt::Formatter<W>) -> fmt::Result {
+        f.write_char(self.symbol())
+    }
+}
+
+/// False is 0, true is 1.
+impl From<bool> for Letter {
+    ghost from_gives = { λ one letter. letter ≡ bool_letter one };
+
+    fn from(one: bool) -> Letter {
+        if one { Letter::One } else { Letter::Zero }
     }
 }

@@ -11,7 +11,6 @@ ghost use Rattle.level.specs.Laws.{LetterLaws};
 
 mod bit;
 mod faults;
-mod lanes;
 mod letter;
 mod ternary;
 mod word;
@@ -27,45 +26,61 @@ pub trait Level: Copy {
     /// The number of lanes.
     const LANES: usize;
 
-    /// The number of lanes, for clauses, which cannot name the constant: `lane_count` ties the two.
-    ghost lanes: { ℕ };
+    /// The same number, for clauses. The check holds the two to one another in each kind.
+    ghost LANES: { ℕ };
 
-    /// The letter of a level in each lane below `lanes`.
+    /// The letter of a level in each lane below `LANES`.
     ghost letters: { Self → ℕ → Letter };
 
-    /// The number of lanes. Its body is the constant.
+    /// The number of lanes.
     fn lane_count() -> usize
-        ensures { result ≡ lanes };
+        ensures { result ≡ LANES }
+    {
+        Self::LANES
+    }
 
     /// 0 in every lane.
     fn zero() -> Self
-        ensures { (k : ℕ) → k < lanes → letters result k ≡ zero_l };
+        ensures { (k : ℕ) → k < LANES → letters result k ≡ zero_l };
 
     /// 1 in every lane.
     fn one() -> Self
-        ensures { (k : ℕ) → k < lanes → letters result k ≡ one_l };
+        ensures { (k : ℕ) → k < LANES → letters result k ≡ one_l };
 
     /// NOT, lane by lane.
     fn not(self) -> Self
-        ensures { (k : ℕ) → k < lanes → letters result k ≡ not_l (letters self k) };
+        ensures { (k : ℕ) → k < LANES → letters result k ≡ not_l (letters self k) };
 
     /// AND, lane by lane.
     fn and(self, other: Self) -> Self
-        ensures { (k : ℕ) → k < lanes → letters result k ≡ and_l (letters self k) (letters other k) };
+        ensures { (k : ℕ) → k < LANES → letters result k ≡ and_l (letters self k) (letters other k) };
 
     /// OR, lane by lane.
     fn or(self, other: Self) -> Self
-        ensures { (k : ℕ) → k < lanes → letters result k ≡ or_l (letters self k) (letters other k) };
+        ensures { (k : ℕ) → k < LANES → letters result k ≡ or_l (letters self k) (letters other k) };
 
     /// XOR, lane by lane.
     fn xor(self, other: Self) -> Self
-        ensures { (k : ℕ) → k < lanes → letters result k ≡ xor_l (letters self k) (letters other k) };
+        ensures { (k : ℕ) → k < LANES → letters result k ≡ xor_l (letters self k) (letters other k) };
 
     /// The letter of a lane, refused where there is no such lane.
     fn letter(self, lane: usize) -> Result<Letter, LevelFault>
         ensures { MatchResult result
-            (λ x. (lane < lanes) × (x ≡ letters self lane))
-            (λ e. (lanes ≤ lane) × (level_told e ≡ bench_refusal 25)) };
+            (λ x. (lane < LANES) × (x ≡ letters self lane))
+            (λ e. (LANES ≤ lane) × (level_told e ≡ bench_refusal 25)) };
+}
+
+// A lane of so many, refused where there is no such lane.
+fn lane_of(lanes: usize, lane: usize) -> Result<usize, LevelFault>
+    ensures { MatchResult result
+        (λ k. (lane < lanes) × (k ≡ lane))
+        (λ e. (lanes ≤ lane) × (level_told e ≡ bench_refusal 25)) }
+{
+    if lane < lanes {
+        Ok(lane)
+    } else {
+        Err(LevelFault::NoSuchLane)
+    }
 }
 
 /// The laws of letters on which later proofs rest.

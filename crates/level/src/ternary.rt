@@ -1,20 +1,16 @@
 //! One lane of any letter.
-use super::{Letter, Level, LevelFault};
+use super::{Letter, Level, LevelFault, lane_of};
 
 /// One lane: 0, 1 or X.
-#[derive(Clone, Copy)]
+#[derive(Clone, Copy, PartialEq, Eq, Debug)]
 pub struct Ternary(pub Letter);
 
 impl Level for Ternary {
     const LANES: usize = 1;
 
-    ghost lanes = { 1 };
+    ghost LANES = { 1 };
 
     ghost letters = { λ level _. level.0 };
-
-    fn lane_count() -> usize {
-        Self::LANES
-    }
 
     fn zero() -> Ternary {
         Ternary(Letter::Zero)
@@ -41,10 +37,7 @@ impl Level for Ternary {
     }
 
     fn letter(self, lane: usize) -> Result<Letter, LevelFault> {
-        if lane < Self::LANES {
-            Ok(self.0)
-        } else {
-            Err(LevelFault::NoSuchLane)
-        }
+        lane_of(Self::LANES, lane)?;
+        Ok(self.0)
     }
 }

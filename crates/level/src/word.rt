@@ -1,52 +1,50 @@
 //! Sixty-four lanes of 0 or 1, lane i in bit i.
 ghost use Rattle.level.specs.Letters.{lane_letter};
 
-use super::{Letter, Level, LevelFault, lanes};
+use super::{Letter, Level, LevelFault, lane_of};
 
 /// Sixty-four lanes: lane i is bit i, bit 0 the least.
-#[derive(Clone, Copy)]
+#[derive(Clone, Copy, PartialEq, Eq, Debug)]
 pub struct Word(pub u64);
 
 impl Level for Word {
     const LANES: usize = 64;
 
-    ghost lanes = { 64 };
+    ghost LANES = { 64 };
 
     ghost letters = { λ level k. lane_letter level.0 k };
 
-    fn lane_count() -> usize {
-        Self::LANES
-    }
-
     fn zero() -> Word {
-        Word(lanes::none())
+        Word(0)
     }
 
+    #[tactic(auto, using(crate::proofs::WordBits::one_lane))]
     fn one() -> Word {
-        Word(lanes::all())
+        Word(u64::MAX)
     }
 
+    #[tactic(auto, using(crate::proofs::WordBits::not_lane))]
     fn not(self) -> Word {
-        Word(lanes::flipped(self.0))
+        Word(!self.0)
     }
 
+    #[tactic(auto, using(crate::proofs::WordBits::and_lane))]
     fn and(self, other: Word) -> Word {
-        Word(lanes::in_both(self.0, other.0))
+        Word(self.0 & other.0)
     }
 
+    #[tactic(auto, using(crate::proofs::WordBits::or_lane))]
     fn or(self, other: Word) -> Word {
-        Word(lanes::in_either(self.0, other.0))
+        Word(self.0 | other.0)
     }
 
+    #[tactic(auto, using(crate::proofs::WordBits::xor_lane))]
     fn xor(self, other: Word) -> Word {
-        Word(lanes::in_one(self.0, other.0))
+        Word(self.0 ^ other.0)
     }
 
     fn letter(self, lane: usize) -> Result<Letter, LevelFault> {
-        if lane < Self::LANES {
-            Ok(lanes::letter_at(self.0, lane))
-        } else {
-            Err(LevelFault::NoSuchLane)
-        }
+        let lane = lane_of(Self::LANES, lane)?;
+        Ok(Letter::from((self.0 >> lane) & 1 == 1))
     }
 }

@@ -5,151 +5,88 @@ use anyhow::anyhow;
 use cells::{GateTable, NandTable};
 use level::Letter;
 use store::{PartKind, Store};
-use trial::{Trial, rule_letter, try_part};
+use trial::{Case, Trial, operand_count};
 
-/// How many lines were printed, and in how many the store's letter was the rules'.
+/// A report of trials: where its lines are printed, how many there are, and in how many the store's letter was the
+/// rules'.
 #[derive(Drop)]
-struct Tally {
+struct Report<'a, R> {
+    rt: &'a R,
     lines: usize,
     agreed: usize,
 }
 
-impl Tally {
-    fn note(&mut self, agrees: bool) {
+impl<'a, R: Print + AllocGlobal> Report<'a, R> {
+    fn new(rt: &'a R) -> Self {
+        Report {
+            rt,
+            lines: 0,
+            agreed: 0,
+        }
+    }
+
+    // Puts a case on trial, prints the letter that came out and the cells that it took, and holds the letter to the rules.
+    fn show_trial<S: Store + Drop>(&mut self, store: &str, case: Case) -> anyhow::Result<()> {
+        let Trial { letter, cells } = case.try_part::<S>(self.rt.alloc())?;
+        println!(self.rt; "{store} {case} = {letter}, cells {cells}")?;
         self.lines = self.lines.saturating_add(1);
-        if agrees {
+        if letter == case.rule_letter() {
             self.agreed = self.agreed.saturating_add(1);
         }
+        Ok(())
     }
-}
 
-fn name(kind: PartKind) -> &'static str {
-    match kind {
-        PartKind::Zero => "ZERO",
-        PartKind::One => "ONE",
-        PartKind::Leaf => "LEAF",
-        PartKind::Not => "NOT",
-        PartKind::And => "AND",
-        PartKind::Or => "OR",
-        PartKind::Xor => "XOR",
-    }
-}
-
-// Prints a line of a store: the part, the letters that went in, the letter that came out and the cells that it took.
-fn show(
-    rt: &HostRuntime,
-    store: &str,
-    kind: PartKind,
-    a: Letter,
-    b: Letter,
-    trial: Trial,
-) -> anyhow::Result<()> {
-    let part = name(kind);
-    let first = a.symbol();
-    let second = b.symbol();
-    let out = trial.letter.symbol();
-    let cells = trial.cells;
-    match kind {
-        PartKind::Zero | PartKind::One => println!(rt; "{store} {part} = {out}, cells {cells}")?,
-        PartKind::Leaf | PartKind::Not => println!(rt;
-            "{store} {part} {first} = {out}, cells {cells}"
-        )?,
-        PartKind::And | PartKind::Or | PartKind::Xor => println!(rt;
-            "{store} {part} {first} {second} = {out}, cells {cells}"
-        )?,
-    }
-    Ok(())
-}
-
-// Puts a part on trial over the letters a and b, prints its line, and holds its letter to the rules.
-fn show_trial<S: Store + Drop>(
-    rt: &HostRuntime,
-    store: &str,
-    kind: PartKind,
-    a: Letter,
-    b: Letter,
-    tally: &mut Tally,
-) -> anyhow::Result<()> {
-    let trial = try_part::<S>(rt.alloc(), kind, a, b)?;
-    show(rt, store, kind, a, b, trial)?;
-    tally.note(trial.letter == rule_letter(kind, a, b));
-    Ok(())
-}
-
-// Every combination of the letters that a part of this kind uses.
-fn show_part<S: Store + Drop>(
-    rt: &HostRuntime,
-    store: &str,
-    kind: PartKind,
-    tally: &mut Tally,
-) -> anyhow::Result<()> {
-    match kind {
-        PartKind::Zero | PartKind::One => show_trial::<S>(
-            rt,
-            store,
-            kind,
-            Letter::Unknown,
-            Letter::Unknown,
-            tally,
-        )?,
-        PartKind::Leaf | PartKind::Not => {
-            for a in Letter::ALL {
-                show_trial::<S>(rt, store, kind, a, Letter::Unknown, tally)?;
-            }
-        }
-        PartKind::And | PartKind::Or | PartKind::Xor => {
-            for a in Letter::ALL {
-                for b in Letter::ALL {
-                    show_trial::<S>(rt, store, kind, a, b, tally)?;
+    // Every combination of the letters that each part uses.
+    fn show_store<S: Store + Drop>(&mut self, store: &str) -> anyhow::Result<()> {
+        for kind in PartKind::ALL {
+            let operands = operand_count(kind);
+            for &a in letters_of(0 < operands) {
+                for &b in letters_of(1 < operands) {
+                    self.show_trial::<S>(store, Case { kind, a, b })?;
                 }
             }
         }
+        Ok(())
     }
-    Ok(())
+
+    // What each store answers where both sides are 1.
+    fn show_both_one(&self, kind: PartKind) -> anyhow::Result<()> {
+        let case = Case {
+            kind,
+            a: Letter::One,
+            b: Letter::One,
+        };
+        let gate = case.try_part::<GateTable>(self.rt.alloc())?.letter;
+        let nand = case.try_part::<NandTable>(self.rt.alloc())?.letter;
+        println!(self.rt; "{kind} of 1 and 1: gate answers {gate}, nand answers {nand}")?;
+        Ok(())
+    }
+
+    // How many lines agree; all of them must.
+    fn close(self) -> anyhow::Result<()> {
+        let Report { rt, lines, agreed } = self;
+        println!(rt; "{agreed} of {lines} lines agree with the letter rules")?;
+        if agreed < lines {
+            return Err(anyhow!("a store answered another letter than the rules give"));
+        }
+        Ok(())
+    }
 }
 
-fn show_store<S: Store + Drop>(
-    rt: &HostRuntime,
-    store: &str,
-    tally: &mut Tally,
-) -> anyhow::Result<()> {
-    for kind in PartKind::ALL {
-        show_part::<S>(rt, store, kind, tally)?;
+// The letters that an operand takes in turn: each of them, or X alone where the part does not take the operand.
+fn letters_of(taken: bool) -> &'static [Letter] {
+    if taken {
+        &Letter::ALL
+    } else {
+        &[Letter::Unknown]
     }
-    Ok(())
-}
-
-// What each store answers where both sides are 1.
-fn show_both_one(rt: &HostRuntime, kind: PartKind) -> anyhow::Result<()> {
-    let gate = try_part::<GateTable>(rt.alloc(), kind, Letter::One, Letter::One)?
-        .letter
-        .symbol();
-    let nand = try_part::<NandTable>(rt.alloc(), kind, Letter::One, Letter::One)?
-        .letter
-        .symbol();
-    let part = name(kind);
-    println!(rt; "{part} of 1 and 1: gate answers {gate}, nand answers {nand}")?;
-    Ok(())
-}
-
-fn run(rt: &HostRuntime) -> anyhow::Result<()> {
-    let mut tally = Tally {
-        lines: 0,
-        agreed: 0,
-    };
-    show_store::<GateTable>(rt, "gate", &mut tally)?;
-    show_store::<NandTable>(rt, "nand", &mut tally)?;
-    show_both_one(rt, PartKind::Or)?;
-    show_both_one(rt, PartKind::Xor)?;
-    let agreed = tally.agreed;
-    let lines = tally.lines;
-    println!(rt; "{agreed} of {lines} lines agree with the letter rules")?;
-    if agreed < lines {
-        return Err(anyhow!("a store answered another letter than the rules give"));
-    }
-    Ok(())
 }
 
 fn main(rt: HostRuntime) -> anyhow::Result<()> {
-    run(&rt)
+    let mut report = Report::new(&rt);
+    report.show_store::<GateTable>("gate")?;
+    report.show_store::<NandTable>("nand")?;
+    report.show_both_one(PartKind::Or)?;
+    report.show_both_one(PartKind::Xor)?;
+    report.close()
 }

@@ -1,6 +1,7 @@
 -- What the refusals of a store are told as. Assumes nothing.
 use Rattle.std.specs.Prelude.{ℕ, ◌<◌, ◌≤◌}
 use Rattle.fault.specs.declared.Refusal.{Refusal}
+use Rattle.fault.specs.Print.{layer_refusal}
 use Rattle.fault.specs.declared.Layer.TheVariants.{Store}
 use Rattle.store.specs.declared.faults.StoreFault.{StoreFault}
 use Rattle.store.specs.declared.faults.StoreFault.TheVariants.{NoSuchPart, NoSuchOperand, Full, ShortTable}
@@ -9,7 +10,7 @@ use Rattle.store.specs.declared.faults.NewStoreFault.TheVariants.{TooManyCells, 
 
 -- a refusal of the store's layer, which has no place in the text
 abbrev pub store_refusal : ℕ → Refusal
-store_refusal n = record { number = n; place = 0; layer = Store }
+store_refusal = layer_refusal Store
 
 abbrev pub store_told : StoreFault → Refusal
 store_told NoSuchPart = store_refusal 20

@@ -1,7 +1,9 @@
 -- The parts: their codes, their letters, and what they need. Assumes nothing.
-use Rattle.std.specs.Prelude.{ℕ, Bool, false, cond, ◌||◌, List, [], ◌∷◌, Some, None, Option, nat_le, nat_lt, slice_index_or}
+use Rattle.std.specs.Prelude.{◌≡◌, ℕ, Bool, false, cond, ◌||◌, List, [], ◌∷◌, Some, None, Ok, Err, Option, Result, nat_le, nat_lt, slice_index, slice_index_or, codes}
 use Rattle.level.specs.declared.letter.Letter.{Letter}
 use Rattle.level.specs.Letters.{zero_l, one_l, not_l, and_l, or_l, xor_l}
+use Rattle.store.specs.declared.faults.StoreFault.{StoreFault}
+use Rattle.store.specs.declared.faults.StoreFault.TheVariants.{NoSuchPart}
 use Rattle.store.specs.declared.part.PartKind.{PartKind}
 use Rattle.store.specs.declared.part.PartKind.TheVariants.{Zero, One, Leaf, Not, And, Or, Xor}
 use Rattle.store.specs.Meaning.{at}
@@ -25,6 +27,25 @@ code_of Not = 3
 code_of And = 4
 code_of Or = 5
 code_of Xor = 6
+
+-- what is read of a code: its kind, or that there is none
+abbrev pub KindRead : ℕ → Result PartKind StoreFault → Type 0
+KindRead code (Ok kind) = kind_of code ≡ Some kind
+KindRead code (Err e) = (kind_of code ≡ None) × (e ≡ NoSuchPart)
+
+-- the kind's name
+abbrev pub kind_name : PartKind → List ℕ
+kind_name Zero = codes "ZERO"
+kind_name One = codes "ONE"
+kind_name Leaf = codes "LEAF"
+kind_name Not = codes "NOT"
+kind_name And = codes "AND"
+kind_name Or = codes "OR"
+kind_name Xor = codes "XOR"
+
+-- what a part costs, where the costs stand in the order of the codes
+abbrev pub price : List ℕ → PartKind → ℕ
+price costs kind = slice_index costs (code_of kind)
 
 -- the letter of a part, given those of its leaf and of its operands
 abbrev pub kind_letter : PartKind → Letter → Letter → Letter → Letter

@@ -17,5 +17,5 @@ settle_refusal m leaves work = cond (nat_lt leaves 1088 || nat_lt work m.size) (
 -- in each lane the rows of the signals have their letters for those of the leaves, and the rows past them stay
 pub record Settled {X : Type 0} (L : Ghosts X) (m : Meaning) (leaves old new : List X) : Type 0 where
   pub allowed : settle_refusal m (length leaves) (length old) ≡ None
-  pub lanewise : (k : ℕ) → k < L.lanes → column L k (take m.size new) ≡ m.signals (column L k (take 1088 leaves))
+  pub lanewise : (k : ℕ) → k < L.LANES → column L k (take m.size new) ≡ m.signals (column L k (take 1088 leaves))
   pub rest : drop m.size new ≡ drop m.size old

@@ -1,10 +1,13 @@
 //! What a store refuses.
-ghost use Rattle.std.specs.Prelude.{◌≡◌};
+ghost use Rattle.std.specs.Prelude.{◌≡◌, Some};
+ghost use Rattle.fault.specs.Print.{refusal_line};
 ghost use Rattle.store.specs.declared.faults.NewStoreFault.TheVariants.{OutOfMemory};
-ghost use Rattle.store.specs.Faults.{store_refusal, store_told, new_store_told};
+ghost use Rattle.store.specs.Faults.{store_told, new_store_told};
 
 use fault::{Fault, Layer, Refusal};
 use std::alloc::AllocError;
+use std::fmt;
+use thiserror::Error;
 
 /// Why a part is not placed, or a working table not settled.
 #[derive(Clone, Copy, PartialEq, Eq, Debug)]
@@ -19,36 +22,38 @@ pub enum StoreFault {
     ShortTable,
 }
 
-// A refusal of this layer, which has no place in the text.
-fn refusal_by(number: u8) -> Refusal
-    ensures { result ≡ store_refusal number }
-{
-    Refusal {
-        number,
-        place: 0,
-        layer: Layer::Store,
-    }
-}
-
 impl Fault for StoreFault {
     ghost told = { store_told };
 
     fn refusal(&self) -> Refusal {
-        match self {
-            StoreFault::NoSuchPart => refusal_by(20),
-            StoreFault::NoSuchOperand => refusal_by(21),
-            StoreFault::Full => refusal_by(22),
-            StoreFault::ShortTable => refusal_by(23),
-        }
+        Layer::Store.refusal(match self {
+            StoreFault::NoSuchPart => 20,
+            StoreFault::NoSuchOperand => 21,
+            StoreFault::Full => 22,
+            StoreFault::ShortTable => 23,
+        })
     }
 }
 
+/// The line that tells the refusal.
+impl fmt::Display for StoreFault {
+    ghost output = { λ fault. Some (refusal_line (store_told fault)) };
+
+    fn fmt<W: fmt::Write>(&self, f: &mut fmt::Formatter<W>) -> fmt::Result {
+        fmt::Display::fmt(&self.refusal(), f)
+    }
+}
+
+impl std::error::Error for StoreFault {}
+
 /// Why a store is not made. The table of refusals has no number for either.
-#[derive(Clone, Copy, PartialEq, Eq, Debug)]
+#[derive(Clone, Copy, PartialEq, Eq, Debug, Error)]
 pub enum NewStoreFault {
     /// More than 1,048,576 cells were wished for.
+    #[error("a store has at most 1,048,576 cells")]
     TooManyCells,
     /// There is no memory for the cells.
+    #[error("no memory for the store")]
     OutOfMemory,
 }
 
@@ -57,7 +62,7 @@ impl Fault for NewStoreFault {
 
     fn refusal(&self) -> Refusal {
         match self {
-            NewStoreFault::TooManyCells | NewStoreFault::OutOfMemory => refusal_by(0),
+            NewStoreFault::TooManyCells | NewStoreFault::OutOfMemory => Layer::Store.refusal(0),
         }
     }
 }

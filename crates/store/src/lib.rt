@@ -10,6 +10,7 @@ ghost use Rattle.store.specs.declared.part.PartKind.{PartKind};
 ghost use Rattle.store.specs.Faults.{store_told, NotMade};
 ghost use Rattle.store.specs.Laws.{StoreLaws};
 ghost use Rattle.store.specs.Meaning.{Meaning};
+ghost use Rattle.store.specs.Parts.{code_of, price};
 ghost use Rattle.store.specs.Place.{Placed, place_refusal};
 ghost use Rattle.store.specs.Settle.{Settled, settle_refusal};
 
@@ -32,11 +33,11 @@ pub trait Store {
     /// What each part costs at most, in cells, by its code.
     const COSTS: [usize; 7];
 
+    /// The same costs, for clauses. The check holds the two to one another in each store.
+    ghost COSTS: { List ℕ };
+
     /// The letters of the signals for any letters of the leaves, how many signals there are, and how many cells are free.
     ghost means: { Self → Meaning };
-
-    /// What each part costs, for clauses, which cannot name the constant: `cost` ties the two.
-    ghost price: { PartKind → ℕ };
 
     /// An empty store with so many free cells, at most 1,048,576.
     fn new(heap: Global, cells: usize) -> Result<Self, NewStoreFault>
@@ -46,19 +47,23 @@ pub trait Store {
             (λ s. ((means s).size ≡ 0) × ((means s).free ≡ cells))
             (λ e. NotMade cells e) };
 
-    /// What a part costs at most, in cells. Its body is the constant.
+    /// What a part costs at most, in cells.
     fn cost(kind: PartKind) -> usize
-        ensures { result ≡ price kind };
+        ensures { result ≡ price COSTS kind }
+    {
+        Self::COSTS[usize::from(kind.code())]
+    }
 
     /// How many signals there are.
     fn count(&self) -> usize
         ensures { result ≡ (means self.now).size };
 
     /// Adds the part of a code over two operands, of which it takes those that it uses, and answers its signal.
+    // A code and no `PartKind`: it may come from anywhere, and one that names no part has to be refused.
     fn place(&mut self, code: u8, a: usize, b: usize) -> Result<usize, StoreFault>
         ensures { MatchResult result
-            (λ signal. Placed price code a b (means self.old) (means self.new) signal)
-            (λ e. (place_refusal price code a b (means self.old) ≡ Some (store_told e)) × (self.new ≡ self.old)) };
+            (λ signal. Placed (price COSTS) code a b (means self.old) (means self.new) signal)
+            (λ e. (place_refusal (price COSTS) code a b (means self.old) ≡ Some (store_told e)) × (self.new ≡ self.old)) };
 
     /// Fills the first rows of the working table, one for each signal, with the signals' levels for those of the leaves.
     fn settle<L: Level>(&self, leaves: &[L], work: &mut [L]) -> Result<(), StoreFault>

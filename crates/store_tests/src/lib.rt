@@ -4,7 +4,7 @@
 #[cfg(test)]
 mod tests {
     use cells::{GateTable, NandCell, NandTable, Part};
-    use level::{Letter, Level, Ternary, Word};
+    use level::{Letter, Level, LevelFault, Ternary, Word};
     use std::mem::size_of;
     use std::process::Abort;
     use std::test::Fail;
@@ -59,18 +59,11 @@ mod tests {
             Err(StoreFault::ShortTable)
         );
         assert_eq!(rt; store.settle(&leaves, &mut []), Err(StoreFault::ShortTable));
-        assert_eq!(rt; letter(&work, one), Ok(Letter::Unknown));
+        assert_eq!(rt; work.get(one).copied(), Some(Ternary(Letter::Unknown)));
         assert_eq!(rt; store.settle(&leaves, &mut work), Ok(()));
-        assert_eq!(rt; letter(&work, one), Ok(Letter::One));
-        assert_eq!(rt; letter(&work, 3), Ok(Letter::Unknown));
+        assert_eq!(rt; work.get(one).copied(), Some(Ternary(Letter::One)));
+        assert_eq!(rt; work.get(3).copied(), Some(Ternary(Letter::Unknown)));
         Ok(())
-    }
-
-    fn letter(rows: &[Ternary], n: usize) -> Result<Letter, usize> {
-        match rows.get(n) {
-            Some(level) => Ok(level.0),
-            None => Err(rows.len()),
-        }
     }
 
     #[test]
@@ -102,13 +95,9 @@ mod tests {
     fn cells_are_at_most_a_million(rt: HostRuntime) -> Result<(), Fail> {
         let most = NandTable::new(rt.alloc(), MOST_CELLS)?;
         assert_eq!(rt; most.count(), 0);
-        match GateTable::new(rt.alloc(), MOST_CELLS + 1) {
-            Ok(_) => Err(Fail::new("too large a table was made")),
-            Err(e) => {
-                assert_eq!(rt; e, NewStoreFault::TooManyCells);
-                Ok(())
-            },
-        }
+        let more = GateTable::new(rt.alloc(), MOST_CELLS + 1);
+        assert_eq!(rt; more.err(), Some(NewStoreFault::TooManyCells));
+        Ok(())
     }
 
     // Sixty-four lanes of XOR at once, over NAND cells.
@@ -123,15 +112,11 @@ mod tests {
         leaves[1] = Word(0xffff_0000_ffff_0000);
         let mut work = [Word(0); 8];
         store.settle(&leaves, &mut work)?;
-        match work.get(xor) {
-            Some(level) => {
-                assert_eq!(rt; level.0, 0xfedc_4567_7654_cdef);
-                assert_eq!(rt; level.letter(63), Ok(Letter::One));
-                assert!(rt; level.letter(64).is_err());
-                Ok(())
-            }
-            None => Err(Fail::new("no such row")),
-        }
+        let level = work.get(xor).copied().ok_or("no such row")?;
+        assert_eq!(rt; level, Word(0xfedc_4567_7654_cdef));
+        assert_eq!(rt; level.letter(63), Ok(Letter::One));
+        assert_eq!(rt; level.letter(64), Err(LevelFault::NoSuchLane));
+        Ok(())
     }
 
     #[test]

@@ -9,7 +9,7 @@ use Rattle.store.specs.declared.part.PartKind.{PartKind}
 use Rattle.store.specs.declared.part.PartKind.TheVariants.{Zero, One, Leaf, Not, And, Or, Xor}
 use Rattle.store.specs.declared.Store.{Ghosts}
 use Rattle.store.specs.Meaning.{at}
-use Rattle.store.specs.Parts.{code_of, kind_letter}
+use Rattle.store.specs.Parts.{code_of, kind_letter, price}
 use Rattle.store.specs.Place.{Placed}
 use Rattle.trial.specs.declared.Placement.{Placement}
 use Rattle.trial.specs.declared.Trial.{Trial}
@@ -31,7 +31,7 @@ pub record Took {X : Type 0} (S : Ghosts X) (kind : PartKind) (after : X) (signa
   pub before : X
   pub first : ℕ
   pub second : ℕ
-  pub placed : Placed S.price (code_of kind) first second (S.means before) (S.means after) signal
+  pub placed : Placed (price S.COSTS) (code_of kind) first second (S.means before) (S.means after) signal
   pub taken : cells + (S.means before).size ≡ (S.means after).size
 
 -- a part that stands in a store over the leaves 0 and 1, whatever their letters are
@@ -39,7 +39,7 @@ pub record OverLeaves {X : Type 0} (S : Ghosts X) (kind : PartKind) (s : X) (p :
   pub took : Took S kind s p.signal p.cells
   pub there : p.signal < (S.means s).size
   pub letter : (leaves : List Letter) → at ((S.means s).signals leaves) p.signal ≡ kind_letter kind (at leaves 0) (at leaves 0) (at leaves 1)
-  pub few : p.cells ≤ S.price kind
+  pub few : p.cells ≤ price S.COSTS kind
 
 -- a trial tells the letter that the rules give, and by how many signals its part made a store longer
 pub record Tried {X : Type 0} (S : Ghosts X) (kind : PartKind) (a b : Letter) (t : Trial) : Type 0 where
@@ -47,7 +47,7 @@ pub record Tried {X : Type 0} (S : Ghosts X) (kind : PartKind) (a b : Letter) (t
   pub after : X
   pub signal : ℕ
   pub took : Took S kind after signal t.cells
-  pub few : t.cells ≤ S.price kind
+  pub few : t.cells ≤ price S.COSTS kind
 
 -- a leaf table whose first two rows have these letters
 pub record LeafRows (a b : Letter) (rows : List Ternary) : Type 0 where

@@ -2,42 +2,29 @@
 ghost use Rattle.std.specs.Prelude.{◌≡◌};
 ghost use Rattle.trial.specs.declared.faults.TrialFault.TheVariants.{Level, New, OutOfMemory, Store};
 
-use fault::Fault;
 use level::LevelFault;
 use std::alloc::AllocError;
-use std::error::Error;
-use std::fmt;
-use std::fmt::{Debug, Display};
 use store::{NewStoreFault, StoreFault};
+use thiserror::Error;
 
 /// Why a trial is not made; each fault below is carried whole.
-#[derive(Clone, Copy, PartialEq, Eq, Debug)]
+#[derive(Clone, Copy, PartialEq, Eq, Debug, Error)]
 pub enum TrialFault {
     /// The store was not made.
+    #[error(transparent)]
     New(NewStoreFault),
     /// The store refused.
+    #[error(transparent)]
     Store(StoreFault),
     /// The level refused.
+    #[error(transparent)]
     Level(LevelFault),
     /// There is no memory for the tables.
+    #[error("no memory for the tables")]
     OutOfMemory,
 }
 
-impl fmt::Display for TrialFault {
-    fn fmt<W: fmt::Write>(&self, f: &mut fmt::Formatter<W>) -> fmt::Result {
-        match self {
-            TrialFault::New(NewStoreFault::TooManyCells) => f.write_str(
-                "a store has at most 1,048,576 cells",
-            ),
-            TrialFault::New(NewStoreFault::OutOfMemory) => f.write_str("no memory for the store"),
-            TrialFault::Store(e) => fmt::Display::fmt(&e.refusal(), f),
-            TrialFault::Level(e) => fmt::Display::fmt(&e.refusal(), f),
-            TrialFault::OutOfMemory => f.write_str("no memory for the tables"),
-        }
-    }
-}
-
-impl Error for TrialFault {}
+// Each `From` stands by hand: a derive's has no contract, and the clause of `try_part` names the error.
 
 impl From<NewStoreFault> for TrialFault {
     ghost from_gives = { λ e r. r ≡ New e };

@@ -1,13 +1,14 @@
 //! One part on trial: placed over two leaves in a store of any make, settled, and looked at.
 #![tactic(auto)]
 
-ghost use Rattle.std.specs.Prelude.{◌≡◌, ◌+◌, ◌<◌, ◌≤◌, length, take, IfOk, MatchResult};
-ghost use Rattle.level.specs.declared.letter.Letter.{Letter};
+ghost use Rattle.std.specs.Prelude.{◌≡◌, ◌+◌, ◌<◌, ◌≤◌, ◌↔◌, length, take, Some, IfOk, MatchResult};
 ghost use Rattle.level.specs.contracts.ternary.TernaryLevel.TheImpl.{ghosts as ternary};
 ghost use Rattle.store.specs.declared.faults.StoreFault.TheVariants.{Full};
 ghost use Rattle.store.specs.Meaning.{at};
 ghost use Rattle.store.specs.Parts.{kind_letter};
 ghost use Rattle.store.specs.Settle.{column};
+ghost use Rattle.trial.specs.declared.faults.TrialFault.TheVariants.{OutOfMemory};
+ghost use Rattle.trial.specs.Cases.{IgnoresFirst, IgnoresSecond, case_text};
 ghost use Rattle.trial.specs.Trials.{Excused, LeafRows, OverLeaves, Tried, first_of};
 
 mod faults;
@@ -15,17 +16,89 @@ mod faults;
 pub use faults::TrialFault;
 use level::{Letter, Level, Ternary};
 use std::alloc::{AllocError, Global};
+use std::fmt;
 use store::{LEAVES, PartKind, Store, StoreFault};
 
-// Where a part stands, and how many cells it took.
-#[derive(Clone, Copy)]
-struct Placement {
-    signal: usize,
-    cells: usize,
+/// How many operands a part of this kind takes. A letter past them never changes the part's.
+#[tactic(auto, using(crate::proofs::Operands::ignores_first, crate::proofs::Operands::ignores_second))]
+pub fn operand_count(kind: PartKind) -> usize
+    ensures few { result ≤ 2 }
+    ensures first { (result < 1) ↔ IgnoresFirst kind }
+    ensures second { (result < 2) ↔ IgnoresSecond kind }
+{
+    match kind {
+        PartKind::Zero | PartKind::One => 0,
+        PartKind::Leaf | PartKind::Not => 1,
+        PartKind::And | PartKind::Or | PartKind::Xor => 2,
+    }
+}
+
+/// A part of a kind over two letters, of which it takes as many as it has operands; a leaf has the letter a.
+#[derive(Clone, Copy, PartialEq, Eq, Debug)]
+pub struct Case {
+    pub kind: PartKind,
+    pub a: Letter,
+    pub b: Letter,
+}
+
+impl Case {
+    /// The letter that the rules give the part.
+    pub fn rule_letter(self) -> Letter
+        ensures { result ≡ kind_letter self.kind self.a self.a self.b }
+    {
+        let Case { kind, a, b } = self;
+        match kind {
+            PartKind::Zero => Letter::Zero,
+            PartKind::One => Letter::One,
+            PartKind::Leaf => a,
+            PartKind::Not => a.not(),
+            PartKind::And => a.and(b),
+            PartKind::Or => a.or(b),
+            PartKind::Xor => a.xor(b),
+        }
+    }
+
+    // A leaf table in which the leaves 0 and 1 have the letters a and b.
+    fn leaf_rows(self, heap: Global) -> Result<Vec<Ternary>, AllocError>
+        ensures { IfOk result (λ rows. LeafRows self.a self.b rows.items) }
+    {
+        let mut rows = vec![in heap; Ternary(Letter::Unknown); LEAVES]?;
+        rows[0] = Ternary(self.a);
+        rows[1] = Ternary(self.b);
+        Ok(rows)
+    }
+
+    /// Puts the part on trial in a new store.
+    pub fn try_part<S: Store + Drop>(self, heap: Global) -> Result<Trial, TrialFault>
+        ensures { MatchResult result (λ t. Tried S.Store self.kind self.a self.b t) (λ e. Excused e) }
+    {
+        let mut store = S::new(heap, CELLS)?;
+        let place = place_over_leaves(&mut store, self.kind)?;
+        let leaves = self.leaf_rows(heap)?;
+        let letter = signal_letter(heap, &store, &leaves, place.signal)?;
+        Ok(Trial {
+            letter,
+            cells: place.cells,
+        })
+    }
+}
+
+/// The part's name, and the letters that it takes, a space before each.
+impl fmt::Display for Case {
+    ghost output = { λ case. Some (case_text case) };
+
+    fn fmt<W: fmt::Write>(&self, f: &mut fmt::Formatter<W>) -> fmt::Result {
+        let Case { kind, a, b } = *self;
+        match operand_count(kind) {
+            0 => write!(f, "{kind}"),
+            1 => write!(f, "{kind} {a}"),
+            _ => write!(f, "{kind} {a} {b}"),
+        }
+    }
 }
 
 /// What a part answered, and how many cells it took.
-#[derive(Clone, Copy)]
+#[derive(Clone, Copy, PartialEq, Eq, Debug)]
 pub struct Trial {
     pub letter: Letter,
     pub cells: usize,
@@ -34,19 +107,11 @@ pub struct Trial {
 // How many cells the store of a trial has.
 const CELLS: usize = 16;
 
-/// The letter that the rules give a part over the letters a and b; a leaf has the letter a.
-pub fn rule_letter(kind: PartKind, a: Letter, b: Letter) -> Letter
-    ensures { result ≡ kind_letter kind a a b }
-{
-    match kind {
-        PartKind::Zero => Letter::Zero,
-        PartKind::One => Letter::One,
-        PartKind::Leaf => a,
-        PartKind::Not => a.not(),
-        PartKind::And => a.and(b),
-        PartKind::Or => a.or(b),
-        PartKind::Xor => a.xor(b),
-    }
+// Where a part stands, and how many cells it took.
+#[derive(Clone, Copy)]
+struct Placement {
+    signal: usize,
+    cells: usize,
 }
 
 // A part's first operand: a signal, or the number of a leaf.
@@ -73,48 +138,20 @@ fn place_over_leaves<S: Store>(store: &mut S, kind: PartKind) -> Result<Placemen
     })
 }
 
-// A leaf table in which the leaves 0 and 1 have the letters a and b.
-fn leaf_rows(heap: Global, a: Letter, b: Letter) -> Result<Vec<Ternary>, AllocError>
-    ensures { IfOk result (λ rows. LeafRows a b rows.items) }
-{
-    let mut rows = vec![in heap; Ternary(Letter::Unknown); LEAVES]?;
-    rows[0] = Ternary(a);
-    rows[1] = Ternary(b);
-    Ok(rows)
-}
-
 // The letter of a signal, for the levels of the leaves.
 fn signal_letter<S: Store>(
+    heap: Global,
     store: &S,
     leaves: &[Ternary],
-    work: &mut [Ternary],
     signal: usize,
 ) -> Result<Letter, TrialFault>
     requires there { signal < (S.Store.means store.now).size }
     requires wide { 1088 ≤ length leaves.now }
-    requires long { (S.Store.means store.now).size ≤ length work.old }
-    ensures { MatchResult result (λ x. x ≡ at ((S.Store.means store.now).signals (column ternary 0 (take 1088 leaves.now))) signal) (λ _. ⊥) }
+    ensures { MatchResult result
+        (λ x. x ≡ at ((S.Store.means store.now).signals (column ternary 0 (take 1088 leaves.now))) signal)
+        (λ e. e ≡ OutOfMemory) }
 {
-    store.settle(leaves, work)?;
-    Ok(work[signal].letter(0)?)
-}
-
-/// Puts a part on trial over the letters a and b in a new store.
-pub fn try_part<S: Store + Drop>(
-    heap: Global,
-    kind: PartKind,
-    a: Letter,
-    b: Letter,
-) -> Result<Trial, TrialFault>
-    ensures { MatchResult result (λ t. Tried S.Store kind a b t) (λ e. Excused e) }
-{
-    let mut store = S::new(heap, CELLS)?;
-    let place = place_over_leaves(&mut store, kind)?;
-    let leaves = leaf_rows(heap, a, b)?;
     let mut work = vec![in heap; Ternary::zero(); store.count()]?;
-    let letter = signal_letter(&store, &leaves, &mut work, place.signal)?;
-    Ok(Trial {
-        letter,
-        cells: place.cells,
-    })
+    store.settle(leaves, &mut work)?;
+    Ok(work[signal].letter(0)?)
 }

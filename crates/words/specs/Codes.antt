@@ -1,5 +1,5 @@
--- The numbers by which signs and keywords are compared: their places in the lists of src/token.rt. Assumes nothing.
-use Rattle.std.specs.Prelude.{Bool, ℕ, eqb}
+-- The numbers of the signs and of the keywords, which sort words: their places in the lists of src/token.rt. Assumes nothing.
+use Rattle.std.specs.Prelude.{ℕ}
 use Rattle.words.specs.declared.token.Sign.{Sign}
 use Rattle.words.specs.declared.token.Sign.TheVariants.{Dot, Colon, Semicolon, Comma, LeftParen, RightParen, LeftBracket, RightBracket, Slash, Backslash, Dollar, And, Or, Xor, Not, Star, Equal, Transfer, Branch, AndReduce, OrReduce, XorReduce}
 use Rattle.words.specs.declared.token.Keyword.{Keyword}
@@ -29,9 +29,6 @@ sign_code AndReduce = 19
 sign_code OrReduce = 20
 sign_code XorReduce = 21
 
-abbrev pub same_sign : Sign → Sign → Bool
-same_sign a b = eqb (sign_code a) (sign_code b)
-
 abbrev pub keyword_code : Keyword → ℕ
 keyword_code Module = 0
 keyword_code Inputs = 1
@@ -45,6 +42,3 @@ keyword_code ControlReset = 8
 keyword_code Null = 9
 keyword_code DeadEnd = 10
 keyword_code End = 11
-
-abbrev pub same_keyword : Keyword → Keyword → Bool
-same_keyword a b = eqb (keyword_code a) (keyword_code b)

@@ -1,8 +1,7 @@
-use Rattle.std.proofs.Common.{◌≡◌, ap, ◌∙◌, subst, arith}
+use Rattle.std.proofs.Common.{◌≡◌, ap, ◌∙◌, arith}
 use Rattle.store.specs.declared.part.PartKind.TheVariants.{Leaf}
 use Rattle.store.specs.Meaning.{at}
-use Rattle.store.specs.Parts.{kind_at, part_letter}
-use Rattle.store.specs.Place.{Placed}
+use Rattle.store.specs.Parts.{kind_at}
 use Rattle.store.proofs.Laws.{kind_at_lem}
 use Rattle.store.proofs.Signals.{at_placed, at_stays}
 use Rattle.trial.proofs.Leaves.{over_leaves}
@@ -21,16 +20,14 @@ returns g c =
         before = c.place-2.new.self;
         first = c.first_operand.result;
         second = c.in_ok-b.b;
-        placed = subst (λ code. Placed g.S.Store.price code c.first_operand.result c.in_ok-b.b (means c.place-2.new.self) (means c.place-3.new.self) c.in_ok-signal.signal) c.code-3.ensures r;
-        taken = omega (arith, r.longer, c.count.ensures, c.count-before.ensures);
+        placed = rw (← c.code-3.ensures) r;
+        taken = omega (arith, r.longer);
       };
       there = r.there;
       letter = λ leaves.
           let signals = (means c.place-2.new.self).signals leaves in
           let a : at signals c.in_ok-a.a ≡ at leaves 0 = at_stays q leaves c.in_ok-a.a p.there ∙ at_placed p leaves Leaf (ap kind_at c.code.ensures) in
           let b : at signals c.in_ok-b.b ≡ at leaves 1 = at_placed q leaves Leaf (ap kind_at c.code-2.ensures) in
-          at_placed r leaves kind last
-          ∙ ap (λ n. part_letter kind n c.in_ok-b.b leaves signals) c.first_operand.ensures
-          ∙ over_leaves leaves signals c.in_ok-a.a c.in_ok-b.b a b kind;
-      few = omega (arith, r.grown, ap g.S.Store.price last, c.count.ensures, c.count-before.ensures);
+          grind (arith, at_placed r leaves kind last, over_leaves leaves signals c.in_ok-a.a c.in_ok-b.b kind a b);
+      few = grind (arith, r.grown, last);
     }
