@@ -27,6 +27,7 @@ fn lay(stages: &[Stage], part: Part, cells: &mut Cells<NandCell>)
     ensures items { cells.new.list.items ≡ cells.old.list.items ++ map (stage_cell part (length cells.old.list.items)) stages.now }
     ensures limit { cells.new.limit ≡ cells.old.limit }
 {
+    // `as` and no `try_from`: the check proves that no bit is lost.
     let base = cells.len() as u32;
     for stage in stages {
         cells.push(stage.over(part, base));

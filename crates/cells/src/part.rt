@@ -29,6 +29,7 @@ fn operand(n: usize, limit: usize) -> Result<u32, StoreFault>
     ensures { MatchResult result (λ v. (n < limit) × (v ≡ n)) (λ e. (limit ≤ n) × (e ≡ NoSuchOperand)) }
 {
     if n < limit {
+        // `as` and no `try_from`: the check proves that no bit is lost, and a second failure would never come.
         Ok(n as u32)
     } else {
         Err(StoreFault::NoSuchOperand)

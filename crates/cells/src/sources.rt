@@ -18,6 +18,7 @@ fn level_at<L: Level>(rows: &[L], n: u32) -> L
     requires { n < length rows.now }
     ensures { (k : ℕ) → k < L.Level.LANES → L.Level.letters result k ≡ at (column L.Level k rows.now) n }
 {
+    // `as`, since no `From` leads from u32 to usize; the check proves that no bit is lost.
     rows[n as usize]
 }
 

@@ -22,6 +22,7 @@ pub enum Layer {
 
 impl Layer {
     /// The layer's name as it is printed.
+    // Beside `Display`, for a caller who wants the text itself and no printing.
     pub fn name(self) -> &'static str
         ensures { result.now ≡ layer_name self }
     {

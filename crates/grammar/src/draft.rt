@@ -1,6 +1,7 @@
 //! A draft: what a module text says, row by row, as it is written and before any rule is held against it.
 //!
-//! Rows of each table stand in the order of the text, and count from 1.
+//! Rows of each table stand in the order of the text, and count from 1. They name one another by these numbers, and hold no
+//! boxes: the database to come is rows of numbers in the same order, and a boxed tree would be walked to number them.
 
 /// A name: a part of the text.
 #[derive(Clone, Copy, PartialEq, Eq)]

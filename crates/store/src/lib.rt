@@ -59,13 +59,15 @@ pub trait Store {
         ensures { result ≡ (means self.now).size };
 
     /// Adds the part of a code over two operands, of which it takes those that it uses, and answers its signal.
-    // A code and no `PartKind`: it may come from anywhere, and one that names no part has to be refused.
+    // Numbers and no struct of a `PartKind` and its operands: they may come from anywhere, and a code that names no part
+    // or an operand that is not there has to be refused.
     fn place(&mut self, code: u8, a: usize, b: usize) -> Result<usize, StoreFault>
         ensures { MatchResult result
             (λ signal. Placed (price COSTS) code a b (means self.old) (means self.new) signal)
             (λ e. (place_refusal (price COSTS) code a b (means self.old) ≡ Some (store_told e)) × (self.new ≡ self.old)) };
 
     /// Fills the first rows of the working table, one for each signal, with the signals' levels for those of the leaves.
+    // Two slices and no type of its own: both tables are lent by the caller, for this call.
     fn settle<L: Level>(&self, leaves: &[L], work: &mut [L]) -> Result<(), StoreFault>
         ensures { MatchResult result
             (λ _. Settled L.Level (means self.now) leaves.now work.old work.new)

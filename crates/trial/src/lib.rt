@@ -107,7 +107,7 @@ pub struct Trial {
 // How many cells the store of a trial has.
 const CELLS: usize = 16;
 
-// Where a part stands, and how many cells it took.
+// Where a part stands, by the number that its store answers, and how many cells it took.
 #[derive(Clone, Copy)]
 struct Placement {
     signal: usize,
