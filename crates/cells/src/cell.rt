@@ -6,12 +6,13 @@ ghost use Rattle.store.specs.Settle.{column};
 ghost use Rattle.cells.specs.Cells.{Expanded};
 ghost use Rattle.cells.specs.Read.{gate_dangles};
 
+use super::cell_list::CellList;
 use super::part::Part;
-use super::room::Cells;
 use super::sources::Sources;
 use level::Level;
 
-/// A cell of a table, whose signal has the cell's place for its number.
+/// A cell of a table, whose signal has the cell's place for its number. The module is private, so no crate above can call what
+/// has a `requires` here.
 pub trait Cell: Copy {
     /// What each part costs in cells of this type, by its code.
     const COSTS: [usize; 7];
@@ -31,7 +32,7 @@ pub trait Cell: Copy {
         ensures { (k : ℕ) → k < L.Level.LANES → L.Level.letters result k ≡ letter self (column L.Level k sources.now.leaves.now) (column L.Level k sources.now.signals.now) };
 
     /// Adds the cells that stand for a part, and answers the signal of the last.
-    fn expand(part: Part, cells: &mut Cells<Self>) -> usize
+    fn expand(part: Part, cells: &mut CellList<Self>) -> usize
         requires there { gate_dangles (length cells.old.list.items) part ≡ false }
         requires fits { length cells.old.list.items + price COSTS part.kind ≤ cells.old.limit }
         ensures expanded { Expanded letter dangles (price COSTS) part cells.old.list.items cells.new.list.items result }

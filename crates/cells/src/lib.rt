@@ -2,10 +2,10 @@
 #![tactic(auto)]
 
 mod cell;
+mod cell_list;
 mod nand;
 mod part;
 mod pattern;
-mod room;
 mod sources;
 mod table;
 

@@ -4,9 +4,9 @@ ghost use Rattle.cells.specs.Nands.{nand_dangles, nand_letter};
 ghost use Rattle.cells.specs.Patterns.{nand_costs, stage_cell, wired};
 
 use super::cell::Cell;
+use super::cell_list::CellList;
 use super::part::Part;
 use super::pattern::{Stage, pattern};
-use super::room::Cells;
 use super::sources::Sources;
 use level::Level;
 
@@ -21,7 +21,7 @@ pub enum NandCell {
 }
 
 // Adds the cells of a pattern over a part's operands.
-fn lay(stages: &[Stage], part: Part, cells: &mut Cells<NandCell>)
+fn lay(stages: &[Stage], part: Part, cells: &mut CellList<NandCell>)
     requires wired { wired part.kind 0 stages.now ≡ true }
     requires fits { length cells.old.list.items + length stages.now ≤ cells.old.limit }
     ensures items { cells.new.list.items ≡ cells.old.list.items ++ map (stage_cell part (length cells.old.list.items)) stages.now }
@@ -52,7 +52,7 @@ impl Cell for NandCell {
         }
     }
 
-    fn expand(part: Part, cells: &mut Cells<NandCell>) -> usize {
+    fn expand(part: Part, cells: &mut CellList<NandCell>) -> usize {
         lay(pattern(part.kind), part, cells);
         cells.len() - 1
     }

@@ -9,7 +9,7 @@ ghost use Rattle.store.specs.Place.{place_refusal};
 ghost use Rattle.cells.specs.Read.{gate_costs, gate_dangles, gate_letter, part_of};
 
 use super::cell::Cell;
-use super::room::Cells;
+use super::cell_list::CellList;
 use super::sources::Sources;
 use level::Level;
 use store::{LEAVES, PartKind, StoreFault};
@@ -44,6 +44,7 @@ impl Part {
             (λ part. (part ≡ part_of kind a b) × (missing kind a b size ≡ false))
             (λ e. (e ≡ NoSuchOperand) × (missing kind a b size ≡ true)) }
     {
+        // An operand that the kind does not take may be anything, so each is looked at only where it is taken.
         let (first, second) = match kind {
             PartKind::Zero | PartKind::One => (0, 0),
             PartKind::Leaf => (operand(a, LEAVES)?, 0),
@@ -80,7 +81,7 @@ impl Cell for Part {
         }
     }
 
-    fn expand(part: Part, cells: &mut Cells<Part>) -> usize {
+    fn expand(part: Part, cells: &mut CellList<Part>) -> usize {
         cells.push(part)
     }
 }

@@ -19,6 +19,7 @@ pub(crate) enum Pin {
 }
 
 impl Pin {
+    // Part and base go together here and in `Stage::over` alone, which hands them on.
     // The signal that a pin of stage n names, where the pattern stands over a part's operands, its first cell at the base.
     fn signal(self, part: Part, base: u32) -> u32
         requires { (n : ℕ) × (pin_wired part.kind n self ≡ true) × (base + n ≤ 1048576) }

@@ -6,8 +6,8 @@ ghost use Rattle.cells.specs.Laws.{table_sized};
 ghost use Rattle.std.proofs.Common.{rules};
 
 use super::cell::Cell;
+use super::cell_list::CellList;
 use super::part::Part;
-use super::room::Cells;
 use super::sources::Sources;
 use level::Level;
 use std::alloc::Global;
@@ -16,11 +16,12 @@ use store::{LEAVES, NewStoreFault, PartKind, Store, StoreFault};
 /// A store whose cells are of one type.
 #[derive(Drop)]
 pub struct CellTable<C: Cell> {
-    cells: Cells<C>,
+    cells: CellList<C>,
     ghost sound: { Sound C.dangles cells.list.items },
 }
 
-// Fills a row for each cell, in order: a cell reads only the rows before its own.
+// Fills a row for each cell, in order: a cell reads only the rows before its own. Leaves and working table are what `settle`
+// was lent.
 fn fill<C: Cell, L: Level>(cells: &[C], leaves: &[L], work: &mut [L])
     requires sound { Sound C.Cell.dangles cells.now }
     requires wide { length leaves.now ≡ 1088 }
@@ -48,7 +49,7 @@ impl<C: Cell> Store for CellTable<C> {
     ghost bounded = { Prim.search rules };
 
     fn new(heap: Global, cells: usize) -> Result<CellTable<C>, NewStoreFault> {
-        let cells = Cells::new(heap, cells)?;
+        let cells = CellList::new(heap, cells)?;
         Ok(CellTable { cells })
     }
 

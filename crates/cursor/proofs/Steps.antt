@@ -1,4 +1,4 @@
--- How what a rule comes to follows from what its parts come to. Assumes nothing.
+-- How what a rule comes to follows from what its parts come to, for the readers to come. Assumes nothing.
 use Rattle.std.proofs.Common.{◌≡◌, ℕ, zero, suc, ◌-◌, ◌<◌, ◌≤◌, Bool, true, false, ◌&&◌, ◌||◌, List, length, sym, refl, ap, ◌∙◌, arith}
 use Rattle.std.proofs.lemmas.Bool.{cond-true, cond-false}
 use Rattle.words.specs.declared.token.Token.{Token}

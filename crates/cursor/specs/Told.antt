@@ -27,6 +27,7 @@ abbrev pub Told : {A V : Type 0} → Out A → (A → V) → Result V Stop → L
 Told {A = A} o f (Ok v) rest = (t : A) × (o ≡ got t rest) × (v ≡ f t)
 Told o f (Err e) rest = Stopped o e rest
 
+-- The next two are for the readers to come.
 -- a reader that writes: rows before it become the rows after it by f of what it reads
 abbrev pub Wrote : {A V D : Type 0} → Out A → (A → D → D) → D → Result V Stop → List Token → D → Type 0
 Wrote {A = A} o f before (Ok v) rest after = (t : A) × (o ≡ got t rest) × (after ≡ f t before)

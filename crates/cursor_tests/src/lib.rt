@@ -20,12 +20,14 @@ mod tests {
             token(Kind::Reserved(Keyword::End), 6),
         ];
         let mut cursor = Cursor::new(&tokens);
+        assert!(rt; cursor.at(AnyName) && !cursor.at(AnyInteger));
         assert!(rt; cursor.take(AnyName)? == Name { place: 0, len: 2 });
         assert!(rt; cursor.take(Sign::Dot) == Err(Stop::Unexpected));
         assert!(rt; cursor.at(Sign::Comma) && !cursor.at(Sign::Dot));
         assert!(rt; cursor.take(Sign::Comma)? == 2);
         assert!(rt; cursor.at_list());
         assert!(rt; cursor.take(AnyInteger)? == Number { place: 4, value: 7 });
+        assert!(rt; cursor.at(Keyword::End) && !cursor.at(Keyword::Body));
         assert!(rt; cursor.take(Keyword::End)? == 6);
         assert!(rt; cursor.rest().is_empty());
         Ok(())

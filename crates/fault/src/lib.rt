@@ -22,7 +22,7 @@ pub enum Layer {
 
 impl Layer {
     /// The layer's name as it is printed.
-    // Beside `Display`, for a caller who wants the text itself and no printing.
+    // A call of its own beside `Display`, which prints what it answers.
     pub fn name(self) -> &'static str
         ensures { result.now ≡ layer_name self }
     {
@@ -59,7 +59,8 @@ impl fmt::Display for Layer {
 /// it, as at want of memory), the place in the text where there is one, and the layer.
 #[derive(Clone, Copy, PartialEq, Eq, Debug)]
 pub struct Refusal {
-    // A number: it is what the user is told. What was wrong is a case of each layer's own enum.
+    // Numbers, and 0 for no number and for no place: they are what the user is told, and are printed so. What was wrong is a
+    // case of each layer's own enum.
     pub number: u8,
     pub place: usize,
     pub layer: Layer,

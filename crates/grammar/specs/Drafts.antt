@@ -1,5 +1,5 @@
 -- The draft of a module: the rows that its tree says, in the order of the text. Assumes nothing.
-use Rattle.std.specs.Prelude.{ℕ, ◌+◌, List, [], ◌∷◌, ◌++◌, length, Some, None, vec_items, Option}
+use Rattle.std.specs.Prelude.{ℕ, ◌+◌, List, [], ◌∷◌, ◌++◌, length, Some, None, vec_items, Option, map}
 use Rattle.words.specs.declared.token.Sign.TheVariants.{Colon, Semicolon, Comma, LeftBracket, RightBracket, And, Or, Xor}
 use Rattle.grammar.specs.declared.draft.Name.{Name}
 use Rattle.grammar.specs.declared.draft.Number.{Number}
@@ -12,7 +12,7 @@ use Rattle.grammar.specs.declared.draft.Gate.TheVariants.{And as AndGate, Or as 
 use Rattle.grammar.specs.declared.draft.Form.{Form}
 use Rattle.grammar.specs.declared.draft.Form.TheVariants.{Bits, Literal, Sized, Comma as CommaForm, Join, Not as NotForm, Reduce}
 use Rattle.grammar.specs.declared.draft.Node.{Node}
-use Rattle.grammar.specs.declared.draft.Digit.{Digit}
+use Rattle.grammar.specs.declared.draft.Listed.{Listed}
 use Rattle.grammar.specs.declared.draft.Target.{Target}
 use Rattle.grammar.specs.declared.draft.Condition.{Condition}
 use Rattle.grammar.specs.declared.draft.StatementKind.{StatementKind}
@@ -22,7 +22,6 @@ use Rattle.grammar.specs.declared.draft.Leaving.{Leaving}
 use Rattle.grammar.specs.declared.draft.Leaving.TheVariants.{Next, Plain, Conditions, Dead}
 use Rattle.grammar.specs.declared.draft.Step.{Step}
 use Rattle.grammar.specs.declared.draft.Exit.{Exit}
-use Rattle.grammar.specs.declared.draft.Reset.{Reset}
 use Rattle.grammar.specs.declared.draft.Terms.{Terms}
 use Rattle.grammar.specs.declared.draft.Rows.{Rows}
 use Rattle.grammar.specs.declared.draft.Draft.{Draft}
@@ -32,7 +31,7 @@ use Rattle.grammar.specs.Trees.{Tree, mark_at, name_at, integer_at, both, none, 
 -- the rows of expressions, as lists
 pub record TermLists : Type 0 where
   pub nodes : List Node
-  pub digits : List Digit
+  pub digits : List Listed
 
 abbrev pub term_lists : Terms → TermLists
 term_lists t = record { nodes = vec_items t.nodes; digits = vec_items t.digits }
@@ -44,7 +43,7 @@ pub record RowLists : Type 0 where
   pub statements : List Statement
   pub targets : List Target
   pub exits : List Exit
-  pub resets : List Reset
+  pub resets : List Listed
   pub terms : TermLists
 
 abbrev pub row_lists : Rows → RowLists
@@ -62,8 +61,8 @@ row_lists r = record {
 abbrev pub with_node : TermLists → Node → TermLists
 with_node d x = record { nodes = d.nodes ++ x ∷ []; digits = d.digits }
 
-abbrev pub with_digit : TermLists → Digit → TermLists
-with_digit d x = record { nodes = d.nodes; digits = d.digits ++ x ∷ [] }
+abbrev pub with_digits : TermLists → List Listed → TermLists
+with_digits d xs = record { nodes = d.nodes; digits = xs }
 
 abbrev pub with_item : RowLists → Item → RowLists
 with_item d x = record { items = d.items ++ x ∷ []; steps = d.steps; statements = d.statements; targets = d.targets; exits = d.exits; resets = d.resets; terms = d.terms }
@@ -80,7 +79,7 @@ with_target d x = record { items = d.items; steps = d.steps; statements = d.stat
 abbrev pub with_exits : RowLists → List Exit → RowLists
 with_exits d xs = record { items = d.items; steps = d.steps; statements = d.statements; targets = d.targets; exits = xs; resets = d.resets; terms = d.terms }
 
-abbrev pub with_resets : RowLists → List Reset → RowLists
+abbrev pub with_resets : RowLists → List Listed → RowLists
 with_resets d xs = record { items = d.items; steps = d.steps; statements = d.statements; targets = d.targets; exits = d.exits; resets = xs; terms = d.terms }
 
 abbrev pub with_terms : RowLists → TermLists → RowLists
@@ -101,6 +100,17 @@ abbrev pub ref_of : Tree ref → Reference
 ref_of (both n none) = record { name = name_of n; subscript = None }
 ref_of (both n (some s)) = record { name = name_of n; subscript = Some (subscript_of s) }
 
+-- lists of integers, behind those that stand already
+abbrev pub listed_at : Option ℕ → Tree integer → Listed
+listed_at c i = record { comma = c; integer = number_of i }
+
+abbrev pub more_listed : Tree (many (mark Comma then integer)) → List Listed → List Listed
+more_listed end xs = xs
+more_listed (more (both (mark_at p) i) is) xs = more_listed is (xs ++ listed_at (Some p) i ∷ [])
+
+abbrev pub listed : Tree integers → List Listed → List Listed
+listed (both i is) xs = more_listed is (xs ++ listed_at None i ∷ [])
+
 -- expressions: the row of a term's node is the last one
 abbrev pub root : TermLists → ℕ
 root d = length d.nodes
@@ -108,15 +118,8 @@ root d = length d.nodes
 abbrev pub node_at : ℕ → Option ℕ → Form → Node
 node_at p k f = record { place = p; driven = k; form = f }
 
-abbrev pub digit_at : Option ℕ → Tree integer → Digit
-digit_at c i = record { comma = c; integer = number_of i }
-
-abbrev pub more_digits : Tree (many (mark Comma then integer)) → TermLists → TermLists
-more_digits end d = d
-more_digits (more (both (mark_at p) i) is) d = more_digits is (with_digit d (digit_at (Some p) i))
-
 abbrev pub digit_rows : Tree integers → TermLists → TermLists
-digit_rows (both i is) d = more_digits is (with_digit d (digit_at None i))
+digit_rows is d = with_digits d (listed is d.digits)
 
 -- a node over the term before it and the term now last
 abbrev pub joined : ℕ → Option ℕ → (ℕ → ℕ → Form) → TermLists → TermLists → TermLists
@@ -259,15 +262,11 @@ stmt_rows s (both ts (right (right (both (mark_at p) (both o (both c (both z (bo
     value_rows (head_at (targets_place ts) (Some s) Transfer (Some (condition_at p after)) q) e after
 
 -- exits of the step s
-abbrev pub exit_at : ℕ → Option ℕ → Tree integer → Exit
-exit_at s c i = record { step = s; comma = c; entered = number_of i }
-
-abbrev pub more_exits : ℕ → Tree (many (mark Comma then integer)) → List Exit → List Exit
-more_exits s end xs = xs
-more_exits s (more (both (mark_at p) i) is) xs = more_exits s is (xs ++ exit_at s (Some p) i ∷ [])
+abbrev pub exit_at : ℕ → Listed → Exit
+exit_at s x = record { step = s; entered = x }
 
 abbrev pub exit_rows : ℕ → Tree integers → List Exit → List Exit
-exit_rows s (both i is) xs = more_exits s is (xs ++ exit_at s None i ∷ [])
+exit_rows s is xs = xs ++ map (exit_at s) (listed is [])
 
 -- how the step s is left, and the rows with those of its action
 abbrev pub Left : Type 0
@@ -313,15 +312,8 @@ abbrev pub no_rows : RowLists
 no_rows = record { items = []; steps = []; statements = []; targets = []; exits = []; resets = []; terms = record { nodes = []; digits = [] } }
 
 -- steps that CONTROLRESET enters
-abbrev pub reset_at : Option ℕ → Tree integer → Reset
-reset_at c i = record { comma = c; entered = number_of i }
-
-abbrev pub more_resets : Tree (many (mark Comma then integer)) → List Reset → List Reset
-more_resets end xs = xs
-more_resets (more (both (mark_at p) i) is) xs = more_resets is (xs ++ reset_at (Some p) i ∷ [])
-
 abbrev pub reset_rows : Tree integers → RowLists → RowLists
-reset_rows (both i is) d = with_resets d (more_resets is (d.resets ++ reset_at None i ∷ []))
+reset_rows is d = with_resets d (listed is d.resets)
 
 unfoldable pub draft_of : Tree unit → DraftLists
 draft_of (both a (both b (both n (both c (both d (both ds (both e (both f (both g (both k (both h (both s (both ss (both i (both j (both l (both is (both m (both cs z))))))))))))))))))) =

@@ -1,7 +1,7 @@
 //! A draft: what a module text says, row by row, as it is written and before any rule is held against it.
 //!
 //! Rows of each table stand in the order of the text, and count from 1. They name one another by these numbers, and hold no
-//! boxes: the database to come is rows of numbers in the same order, and a boxed tree would be walked to number them.
+//! boxes: rules are told by row in the order of the text, and a boxed tree would have to be walked to find a row's number.
 
 /// A name: a part of the text.
 #[derive(Clone, Copy, PartialEq, Eq)]
@@ -86,9 +86,9 @@ pub struct Node {
     pub form: Form,
 }
 
-/// An integer of a bit string, with the place of the comma before it, if it is not the first.
+/// An integer of a list, with the place of the comma before it, if it is not the first.
 #[derive(Clone, Copy, PartialEq, Eq)]
-pub struct Digit {
+pub struct Listed {
     pub comma: Option<usize>,
     pub integer: Number,
 }
@@ -148,27 +148,18 @@ pub struct Step {
     pub leaving: Leaving,
 }
 
-/// An integer of a branch, with the place of the comma before it, if it is not the first: a step that is entered, and
-/// the row of the step that is left.
+/// An integer of a branch: the row of the step that is left, and the step that is entered.
 #[derive(Clone, Copy, PartialEq, Eq)]
 pub struct Exit {
     pub step: usize,
-    pub comma: Option<usize>,
-    pub entered: Number,
-}
-
-/// An integer of CONTROLRESET, with the place of the comma before it, if it is not the first: a step that is entered.
-#[derive(Clone, Copy, PartialEq, Eq)]
-pub struct Reset {
-    pub comma: Option<usize>,
-    pub entered: Number,
+    pub entered: Listed,
 }
 
 /// The rows of expressions: each node stands after its operands, left before right.
 #[derive(Drop)]
 pub struct Terms {
     pub nodes: Vec<Node>,
-    pub digits: Vec<Digit>,
+    pub digits: Vec<Listed>,
 }
 
 /// All rows of a draft.
@@ -179,7 +170,7 @@ pub struct Rows {
     pub statements: Vec<Statement>,
     pub targets: Vec<Target>,
     pub exits: Vec<Exit>,
-    pub resets: Vec<Reset>,
+    pub resets: Vec<Listed>,
     pub terms: Terms,
 }
 

@@ -6,8 +6,8 @@ ghost use Rattle.grammar.specs.Laws.{GrammarLaws};
 mod draft;
 
 pub use draft::{
-    Class, Condition, Digit, Draft, Exit, Form, Gate, Item, Leaving, Name, Node, Number, Reference,
-    Reset, Rows, Statement, StatementKind, Step, Subscript, Target, Terms,
+    Class, Condition, Draft, Exit, Form, Gate, Item, Leaving, Listed, Name, Node, Number,
+    Reference, Rows, Statement, StatementKind, Step, Subscript, Target, Terms,
 };
 
 /// The laws of reading. A whole text of words is read as the module whose words they are, where that nests at most 16

@@ -1,4 +1,4 @@
--- The laws of letters. Assumes nothing.
+-- The laws of letters, for the proofs of crates above. Assumes nothing.
 use Rattle.std.proofs.Common.{rules}
 use Rattle.level.specs.Laws.{LetterLaws}
 

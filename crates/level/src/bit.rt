@@ -1,7 +1,7 @@
 //! One lane of 0 or 1.
 ghost use Rattle.level.specs.Letters.{bool_letter};
 
-use super::{Letter, Level, LevelFault, lane_of};
+use super::{Letter, Level, LevelFault};
 
 /// One lane: false is 0, true is 1.
 #[derive(Clone, Copy, PartialEq, Eq, Debug)]
@@ -39,7 +39,7 @@ impl Level for Bit {
     }
 
     fn letter(self, lane: usize) -> Result<Letter, LevelFault> {
-        lane_of(Self::LANES, lane)?;
+        Self::lane(lane)?;
         Ok(Letter::from(self.0))
     }
 }

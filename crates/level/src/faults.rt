@@ -25,6 +25,7 @@ impl Fault for LevelFault {
 }
 
 /// The line that tells the refusal.
+// Written at each fault that has a number, since no impl can stand for every `Fault`.
 impl fmt::Display for LevelFault {
     ghost output = { λ fault. Some (refusal_line (level_told fault)) };
 

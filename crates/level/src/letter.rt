@@ -17,7 +17,7 @@ impl Letter {
     pub const ALL: [Letter; 3] = [Letter::Zero, Letter::One, Letter::Unknown];
 
     /// The character that stands for the letter.
-    // Beside `Display`, for a caller who wants the character itself and no printing.
+    // A call of its own beside `Display`, which prints what it answers: a line of letters is made of characters.
     pub fn symbol(self) -> char
         ensures { result ≡ symbol_of self }
     {

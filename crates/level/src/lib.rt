@@ -21,7 +21,9 @@ pub use letter::Letter;
 pub use ternary::Ternary;
 pub use word::Word;
 
-/// A kind of level. Every operation works in each lane apart; only `letter` refuses.
+/// A kind of level. Every operation works in each lane apart; a lane that is not there is all that is refused.
+// Methods and no operators: a supertrait of std for each would need a law of its own to say what its clause says. Each clause
+// has the quantifier over the lanes, which a definition would only hide.
 pub trait Level: Copy {
     /// The number of lanes.
     const LANES: usize;
@@ -37,6 +39,19 @@ pub trait Level: Copy {
         ensures { result ≡ LANES }
     {
         Self::LANES
+    }
+
+    /// The lane of that number, refused where there is no such lane.
+    fn lane(n: usize) -> Result<usize, LevelFault>
+        ensures { MatchResult result
+            (λ k. (n < LANES) × (k ≡ n))
+            (λ e. (LANES ≤ n) × (level_told e ≡ bench_refusal 25)) }
+    {
+        if n < Self::LANES {
+            Ok(n)
+        } else {
+            Err(LevelFault::NoSuchLane)
+        }
     }
 
     /// 0 in every lane.
@@ -68,19 +83,6 @@ pub trait Level: Copy {
         ensures { MatchResult result
             (λ x. (lane < LANES) × (x ≡ letters self lane))
             (λ e. (LANES ≤ lane) × (level_told e ≡ bench_refusal 25)) };
-}
-
-// A lane of so many, refused where there is no such lane.
-fn lane_of(lanes: usize, lane: usize) -> Result<usize, LevelFault>
-    ensures { MatchResult result
-        (λ k. (lane < lanes) × (k ≡ lane))
-        (λ e. (lanes ≤ lane) × (level_told e ≡ bench_refusal 25)) }
-{
-    if lane < lanes {
-        Ok(lane)
-    } else {
-        Err(LevelFault::NoSuchLane)
-    }
 }
 
 /// The laws of letters on which later proofs rest.

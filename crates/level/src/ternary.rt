@@ -1,5 +1,5 @@
 //! One lane of any letter.
-use super::{Letter, Level, LevelFault, lane_of};
+use super::{Letter, Level, LevelFault};
 
 /// One lane: 0, 1 or X.
 #[derive(Clone, Copy, PartialEq, Eq, Debug)]
@@ -37,7 +37,7 @@ impl Level for Ternary {
     }
 
     fn letter(self, lane: usize) -> Result<Letter, LevelFault> {
-        lane_of(Self::LANES, lane)?;
+        Self::lane(lane)?;
         Ok(self.0)
     }
 }

@@ -1,12 +1,14 @@
 //! Sixty-four lanes of 0 or 1, lane i in bit i.
 ghost use Rattle.level.specs.Letters.{lane_letter};
 
-use super::{Letter, Level, LevelFault, lane_of};
+use super::{Letter, Level, LevelFault};
 
 /// Sixty-four lanes: lane i is bit i, bit 0 the least.
 #[derive(Clone, Copy, PartialEq, Eq, Debug)]
 pub struct Word(pub u64);
 
+// The operators are those of `Bit` at another type. What they do is proved of each apart, so one type over both would save no
+// proof, and would need a bound for each operator.
 impl Level for Word {
     const LANES: usize = 64;
 
@@ -44,7 +46,7 @@ impl Level for Word {
     }
 
     fn letter(self, lane: usize) -> Result<Letter, LevelFault> {
-        let lane = lane_of(Self::LANES, lane)?;
+        let lane = Self::lane(lane)?;
         Ok(Letter::from((self.0 >> lane) & 1 == 1))
     }
 }

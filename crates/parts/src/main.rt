@@ -5,7 +5,7 @@ use anyhow::anyhow;
 use cells::{GateTable, NandTable};
 use level::Letter;
 use store::{PartKind, Store};
-use trial::{Case, Trial, operand_count};
+use trial::{Case, Trial};
 
 /// A report of trials: where its lines are printed, how many there are, and in how many the store's letter was the
 /// rules'.
@@ -36,10 +36,11 @@ impl<'a, R: Print + AllocGlobal> Report<'a, R> {
         Ok(())
     }
 
-    // Every combination of the letters that each part uses.
+    // Every combination of the letters that each part uses. The store's name goes beside its type, since a trait only for a
+    // name would say no more.
     fn show_store<S: Store + Drop>(&mut self, store: &str) -> anyhow::Result<()> {
         for kind in PartKind::ALL {
-            let operands = operand_count(kind);
+            let operands = kind.operand_count();
             for &a in letters_of(0 < operands) {
                 for &b in letters_of(1 < operands) {
                     self.show_trial::<S>(store, Case { kind, a, b })?;

@@ -1,4 +1,4 @@
--- The laws of codes and of refusals, and what follows from them. Assumes nothing.
+-- The laws of codes and of refusals, and what follows from them, for the proofs of crates above. Assumes nothing.
 use Rattle.std.proofs.Common.{◌≡◌, ℕ, ◌<◌, ◌≤◌, false, Some, rules, arith}
 use Rattle.std.proofs.lemmas.Grind.{common_steps}
 use Rattle.store.specs.declared.faults.StoreFault.{StoreFault}

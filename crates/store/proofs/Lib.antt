@@ -1,3 +1,4 @@
 pub mod Columns
 pub mod Laws
 pub mod Signals
+mod Operands

@@ -57,7 +57,15 @@ kind_letter And leaf a b = and_l a b
 kind_letter Or leaf a b = or_l a b
 kind_letter Xor leaf a b = xor_l a b
 
--- the same over the operand numbers a and b, given the letters of the leaves and of the signals before it
+-- the first operand's letter, which a leaf has for its own, never changes the letter of a part of this kind
+abbrev pub IgnoresFirst : PartKind → Type 0
+IgnoresFirst kind = (a x b : Letter) → kind_letter kind a a b ≡ kind_letter kind x x b
+
+-- the second operand's letter never changes it
+abbrev pub IgnoresSecond : PartKind → Type 0
+IgnoresSecond kind = (a b x : Letter) → kind_letter kind a a b ≡ kind_letter kind a a x
+
+-- the letter of a part over the operand numbers a and b, given the letters of the leaves and of the signals before it
 abbrev pub part_letter : PartKind → ℕ → ℕ → List Letter → List Letter → Letter
 part_letter kind a b leaves signals = kind_letter kind (at leaves a) (at signals a) (at signals b)
 

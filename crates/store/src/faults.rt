@@ -6,7 +6,7 @@ ghost use Rattle.store.specs.Faults.{store_told, new_store_told};
 
 use fault::{Fault, Layer, Refusal};
 use std::alloc::AllocError;
-use std::fmt;
+use std::{error, fmt};
 use thiserror::Error;
 
 /// Why a part is not placed, or a working table not settled.
@@ -36,6 +36,7 @@ impl Fault for StoreFault {
 }
 
 /// The line that tells the refusal.
+// Written at each fault that has a number, since no impl can stand for every `Fault`.
 impl fmt::Display for StoreFault {
     ghost output = { λ fault. Some (refusal_line (store_told fault)) };
 
@@ -44,7 +45,7 @@ impl fmt::Display for StoreFault {
     }
 }
 
-impl std::error::Error for StoreFault {}
+impl error::Error for StoreFault {}
 
 /// Why a store is not made. The table of refusals has no number for either.
 #[derive(Clone, Copy, PartialEq, Eq, Debug, Error)]

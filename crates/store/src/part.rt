@@ -1,6 +1,6 @@
 //! The parts that a circuit is made of.
-ghost use Rattle.std.specs.Prelude.{◌≡◌, Some};
-ghost use Rattle.store.specs.Parts.{code_of, kind_name, KindRead};
+ghost use Rattle.std.specs.Prelude.{◌≡◌, ◌<◌, ◌≤◌, ◌↔◌, Some};
+ghost use Rattle.store.specs.Parts.{code_of, kind_name, IgnoresFirst, IgnoresSecond, KindRead};
 
 use super::StoreFault;
 use std::fmt;
@@ -30,11 +30,25 @@ impl PartKind {
     ];
 
     /// The code by which a part of this kind is placed.
-    // No `From`: `kind.code()` tells at each call of `place` which number it is, and `kind.into()` would not.
+    // No `From` besides: there would be two ways to the one number, and `code` says at each call of `place` which it is.
     pub fn code(self) -> u8
         ensures { result ≡ code_of self }
     {
         self as u8
+    }
+
+    /// How many operands a part of this kind takes; a leaf's is the leaf. A letter past them never changes the part's.
+    #[tactic(auto, using(crate::proofs::Operands::ignores_first, crate::proofs::Operands::ignores_second))]
+    pub fn operand_count(self) -> usize
+        ensures few { result ≤ 2 }
+        ensures first { (result < 1) ↔ IgnoresFirst self }
+        ensures second { (result < 2) ↔ IgnoresSecond self }
+    {
+        match self {
+            PartKind::Zero | PartKind::One => 0,
+            PartKind::Leaf | PartKind::Not => 1,
+            PartKind::And | PartKind::Or | PartKind::Xor => 2,
+        }
     }
 }
 

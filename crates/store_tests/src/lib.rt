@@ -1,14 +1,16 @@
-//! Examples of both stores at their limits. A crate of its own, since tests have their crate proved twice.
+//! Examples of both stores at their limits, and of what errors print. A crate of its own, since tests have their crate proved twice.
 #![tactic(auto)]
 
 #[cfg(test)]
 mod tests {
     use cells::{GateTable, NandCell, NandTable, Part};
+    use fault::Layer;
     use level::{Letter, Level, LevelFault, Ternary, Word};
     use std::mem::size_of;
     use std::process::Abort;
     use std::test::Fail;
     use store::{LEAVES, MOST_CELLS, NewStoreFault, PartKind, Store, StoreFault};
+    use trial::{Case, TrialFault};
 
     // Of several faults the one of the lowest number is answered, and nothing is placed.
     fn lowest_first<S: Store + Drop>(rt: &(impl Abort + AllocGlobal)) -> Result<(), Fail> {
@@ -116,6 +118,43 @@ mod tests {
         assert_eq!(rt; level, Word(0xfedc_4567_7654_cdef));
         assert_eq!(rt; level.letter(63), Ok(Letter::One));
         assert_eq!(rt; level.letter(64), Err(LevelFault::NoSuchLane));
+        Ok(())
+    }
+
+    // What the user is shown of each error, and a part on trial and a letter as the program prints them.
+    #[test]
+    fn errors_and_cases_print(rt: HostRuntime) -> Result<(), Fail> {
+        let alloc = rt.alloc();
+        let lines = format!(in alloc;
+            "{}\n{}\n{}\n{}",
+            StoreFault::NoSuchPart,
+            StoreFault::NoSuchOperand,
+            StoreFault::Full,
+            LevelFault::NoSuchLane,
+        )?;
+        assert_eq!(rt;
+            lines.as_str(),
+            "REFUSED 20 0 STORE\nREFUSED 21 0 STORE\nREFUSED 22 0 STORE\nREFUSED 25 0 BENCH"
+        );
+        let whole = format!(in alloc;
+            "{}\n{}\n{}\n{}",
+            TrialFault::New(NewStoreFault::TooManyCells),
+            TrialFault::New(NewStoreFault::OutOfMemory),
+            TrialFault::Store(StoreFault::ShortTable),
+            TrialFault::OutOfMemory,
+        )?;
+        assert_eq!(rt;
+            whole.as_str(),
+            "a store has at most 1,048,576 cells\nno memory for the store\nREFUSED 23 0 STORE\nno memory for the tables"
+        );
+        let case = Case {
+            kind: PartKind::Xor,
+            a: Letter::One,
+            b: Letter::Unknown,
+        };
+        let refusal = Layer::Text.refusal(6);
+        let text = format!(in alloc; "{case}, {}, {refusal}", case.rule_letter())?;
+        assert_eq!(rt; text.as_str(), "XOR 1 X, X, REFUSED 6 0 TEXT");
         Ok(())
     }
 

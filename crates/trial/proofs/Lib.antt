@@ -1,2 +1,1 @@
 mod Leaves
-mod Operands

@@ -1,19 +1,11 @@
--- What a case is printed as, and which letters a part ignores. Assumes nothing.
-use Rattle.std.specs.Prelude.{◌≡◌, ℕ, List, [], ◌∷◌, ◌++◌, codes}
+-- What a case is printed as. Assumes nothing.
+use Rattle.std.specs.Prelude.{ℕ, List, [], ◌∷◌, ◌++◌, codes}
 use Rattle.level.specs.declared.letter.Letter.{Letter}
 use Rattle.level.specs.Letters.{symbol_of}
 use Rattle.store.specs.declared.part.PartKind.{PartKind}
 use Rattle.store.specs.declared.part.PartKind.TheVariants.{Zero, One, Leaf, Not, And, Or, Xor}
-use Rattle.store.specs.Parts.{kind_letter, kind_name}
+use Rattle.store.specs.Parts.{kind_name}
 use Rattle.trial.specs.declared.Case.{Case}
-
--- the first letter never changes the letter of a part of this kind
-abbrev pub IgnoresFirst : PartKind → Type 0
-IgnoresFirst kind = (a x b : Letter) → kind_letter kind a a b ≡ kind_letter kind x x b
-
--- the second letter never changes the letter of a part of this kind
-abbrev pub IgnoresSecond : PartKind → Type 0
-IgnoresSecond kind = (a b x : Letter) → kind_letter kind a a b ≡ kind_letter kind a a x
 
 -- a letter, with a space before it
 abbrev pub spaced : Letter → List ℕ

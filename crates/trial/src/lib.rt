@@ -1,14 +1,14 @@
 //! One part on trial: placed over two leaves in a store of any make, settled, and looked at.
 #![tactic(auto)]
 
-ghost use Rattle.std.specs.Prelude.{◌≡◌, ◌+◌, ◌<◌, ◌≤◌, ◌↔◌, length, take, Some, IfOk, MatchResult};
+ghost use Rattle.std.specs.Prelude.{◌≡◌, ◌+◌, ◌<◌, ◌≤◌, length, take, Some, IfOk, MatchResult};
 ghost use Rattle.level.specs.contracts.ternary.TernaryLevel.TheImpl.{ghosts as ternary};
 ghost use Rattle.store.specs.declared.faults.StoreFault.TheVariants.{Full};
 ghost use Rattle.store.specs.Meaning.{at};
 ghost use Rattle.store.specs.Parts.{kind_letter};
 ghost use Rattle.store.specs.Settle.{column};
 ghost use Rattle.trial.specs.declared.faults.TrialFault.TheVariants.{OutOfMemory};
-ghost use Rattle.trial.specs.Cases.{IgnoresFirst, IgnoresSecond, case_text};
+ghost use Rattle.trial.specs.Cases.{case_text};
 ghost use Rattle.trial.specs.Trials.{Excused, LeafRows, OverLeaves, Tried, first_of};
 
 mod faults;
@@ -19,21 +19,9 @@ use std::alloc::{AllocError, Global};
 use std::fmt;
 use store::{LEAVES, PartKind, Store, StoreFault};
 
-/// How many operands a part of this kind takes. A letter past them never changes the part's.
-#[tactic(auto, using(crate::proofs::Operands::ignores_first, crate::proofs::Operands::ignores_second))]
-pub fn operand_count(kind: PartKind) -> usize
-    ensures few { result ≤ 2 }
-    ensures first { (result < 1) ↔ IgnoresFirst kind }
-    ensures second { (result < 2) ↔ IgnoresSecond kind }
-{
-    match kind {
-        PartKind::Zero | PartKind::One => 0,
-        PartKind::Leaf | PartKind::Not => 1,
-        PartKind::And | PartKind::Or | PartKind::Xor => 2,
-    }
-}
-
 /// A part of a kind over two letters, of which it takes as many as it has operands; a leaf has the letter a.
+// Two letters whatever the kind, and no enum with as many as it takes: each part is tried over two leaves, and what it
+// answers may not depend on a letter that it ignores.
 #[derive(Clone, Copy, PartialEq, Eq, Debug)]
 pub struct Case {
     pub kind: PartKind,
@@ -43,6 +31,7 @@ pub struct Case {
 
 impl Case {
     /// The letter that the rules give the part.
+    // Written apart from the tables of cells, since their answers are compared with it.
     pub fn rule_letter(self) -> Letter
         ensures { result ≡ kind_letter self.kind self.a self.a self.b }
     {
@@ -89,10 +78,10 @@ impl fmt::Display for Case {
 
     fn fmt<W: fmt::Write>(&self, f: &mut fmt::Formatter<W>) -> fmt::Result {
         let Case { kind, a, b } = *self;
-        match operand_count(kind) {
-            0 => write!(f, "{kind}"),
-            1 => write!(f, "{kind} {a}"),
-            _ => write!(f, "{kind} {a} {b}"),
+        match kind {
+            PartKind::Zero | PartKind::One => write!(f, "{kind}"),
+            PartKind::Leaf | PartKind::Not => write!(f, "{kind} {a}"),
+            PartKind::And | PartKind::Or | PartKind::Xor => write!(f, "{kind} {a} {b}"),
         }
     }
 }

@@ -1,4 +1,4 @@
--- The numbers of the signs and of the keywords, which sort words: their places in the lists of src/token.rt. Assumes nothing.
+-- Numbers that tell the signs from one another, and the keywords. Assumes nothing.
 use Rattle.std.specs.Prelude.{ℕ}
 use Rattle.words.specs.declared.token.Sign.{Sign}
 use Rattle.words.specs.declared.token.Sign.TheVariants.{Dot, Colon, Semicolon, Comma, LeftParen, RightParen, LeftBracket, RightBracket, Slash, Backslash, Dollar, And, Or, Xor, Not, Star, Equal, Transfer, Branch, AndReduce, OrReduce, XorReduce}

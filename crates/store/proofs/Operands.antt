@@ -1,10 +1,9 @@
--- Which parts ignore a letter, and what is printed of them. Assumes nothing.
-use Rattle.std.proofs.Common.{◌≡◌, ◌⊎◌, inl, inr, [], refl, arith}
-use Rattle.level.specs.declared.letter.Letter.{Letter}
+-- Which parts ignore a letter. Assumes nothing.
+use Rattle.std.proofs.Common.{◌≡◌, ◌⊎◌, inl, inr, refl}
 use Rattle.level.specs.declared.letter.Letter.TheVariants as letter
 use Rattle.store.specs.declared.part.PartKind.{PartKind}
 use Rattle.store.specs.declared.part.PartKind.TheVariants.{Zero, One, Leaf, Not, And, Or, Xor}
-use Rattle.trial.specs.Cases.{IgnoresFirst, IgnoresSecond, operands_text, spaced}
+use Rattle.store.specs.Parts.{IgnoresFirst, IgnoresSecond}
 
 -- two letters that are not the same
 never : {A : Type 0} → letter.Zero ≡ letter.One → A
@@ -29,17 +28,3 @@ ignores_second Not h = inr (inr refl)
 ignores_second And h = never (h letter.One letter.Zero letter.One)
 ignores_second Or h = never (h letter.Zero letter.Zero letter.One)
 ignores_second Xor h = never (h letter.Zero letter.Zero letter.One)
-
--- a part that takes no letter is printed with none
-pub none_printed : (kind : PartKind) (a b : Letter) → IgnoresFirst kind → operands_text kind a b ≡ []
-none_printed kind a b h = grind (arith, ignores_first)
-
--- a part that takes one letter is printed with it
-pub one_printed : (kind : PartKind) (a b : Letter) → (IgnoresFirst kind → ⊥) → IgnoresSecond kind → operands_text kind a b ≡ spaced a
-one_printed Zero a b h k = absurd (h (λ _ _ _. refl))
-one_printed One a b h k = absurd (h (λ _ _ _. refl))
-one_printed Leaf a b h k = refl
-one_printed Not a b h k = refl
-one_printed And a b h k = grind (arith, ignores_second)
-one_printed Or a b h k = grind (arith, ignores_second)
-one_printed Xor a b h k = grind (arith, ignores_second)

@@ -7,7 +7,7 @@ use store::{MOST_CELLS, NewStoreFault};
 
 /// Cells in the order in which they were added, at most `limit` of them. The memory for all is taken at once.
 #[derive(Drop)]
-pub struct Cells<C> {
+pub struct CellList<C> {
     pub(crate) list: Vec<C>,
     // Not the list's capacity, which may be more than was asked for.
     pub(crate) limit: usize,
@@ -16,16 +16,16 @@ pub struct Cells<C> {
     ghost reserved: { limit ≤ vec_capacity list },
 }
 
-impl<C> Cells<C> {
+impl<C> CellList<C> {
     /// No cells.
-    pub(crate) fn new(heap: Global, limit: usize) -> Result<Cells<C>, NewStoreFault>
+    pub(crate) fn new(heap: Global, limit: usize) -> Result<CellList<C>, NewStoreFault>
         ensures { MatchResult result (λ t. (t.list.items ≡ []) × (vec_len t.list ≡ 0) × (t.limit ≡ limit)) (λ e. NotMade limit e) }
     {
         if limit > MOST_CELLS {
             return Err(NewStoreFault::TooManyCells);
         }
         let list = Vec::with_capacity(heap, limit)?;
-        Ok(Cells { list, limit })
+        Ok(CellList { list, limit })
     }
 
     /// How many cells there are.
@@ -43,6 +43,7 @@ impl<C> Cells<C> {
     }
 
     /// Adds a cell, and answers its place.
+    // That the limit stays is said here and by the two calls above, each for itself: it is no part of what they add.
     pub(crate) fn push(&mut self, cell: C) -> usize
         requires { vec_len self.old.list < self.old.limit }
         ensures at { result ≡ vec_len self.old.list }
