@@ -3,8 +3,9 @@
 //! Code above is generic over `Level` and is proved once, lane by lane, against its ghost members alone.
 #![tactic(auto)]
 
-ghost use Rattle.std.specs.Prelude.{◌≡◌, ℕ, ◌<◌, ◌≤◌, MatchResult};
+ghost use Rattle.std.specs.Prelude.{◌≡◌, ℕ, ◌<◌, ◌≤◌, [], ◌∷◌, MatchResult};
 ghost use Rattle.level.specs.declared.letter.Letter.{Letter};
+ghost use Rattle.level.specs.declared.letter.Letter.TheVariants.{Unknown};
 ghost use Rattle.level.specs.Letters.{zero_l, one_l, not_l, and_l, or_l, xor_l};
 ghost use Rattle.level.specs.Faults.{level_told, bench_refusal};
 ghost use Rattle.level.specs.Laws.{LetterLaws};
@@ -85,7 +86,8 @@ pub trait Level: Copy {
             (λ e. (LANES ≤ lane) × (level_told e ≡ bench_refusal 25)) };
 }
 
-/// The laws of letters on which later proofs rest.
+/// The laws of letters on which later proofs rest, and which letters `Letter::ALL` lists.
 pub fn letter_laws()
-    ensures { LetterLaws }
+    ensures laws { LetterLaws }
+    ensures all { Letter.ALL ≡ zero_l ∷ one_l ∷ Unknown ∷ [] }
 {}

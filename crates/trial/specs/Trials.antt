@@ -55,9 +55,13 @@ pub record LeafRows (a b : Letter) (rows : List Ternary) : Type 0 where
   pub first : slice_index_or rows 0 (record { 0 = letter.Zero }) ≡ record { 0 = a }
   pub second : slice_index_or rows 1 (record { 0 = letter.Zero }) ≡ record { 0 = b }
 
--- a trial fails for want of memory or of cells alone
-abbrev pub Excused : TrialFault → Type 0
-Excused (fault.New e) = e ≡ new.OutOfMemory
-Excused (fault.Store e) = e ≡ store.Full
-Excused (fault.Level e) = ⊥
-Excused fault.OutOfMemory = Unit {0}
+-- so many free cells are too few for the two leaves and a part of this kind
+abbrev pub TooFew : List ℕ → PartKind → ℕ → Type 0
+TooFew costs kind free = free < price costs Leaf + (price costs Leaf + price costs kind)
+
+-- a trial in a store of 16 cells fails for want of memory, or of cells, where 16 are too few for it, alone
+abbrev pub Excused : {X : Type 0} → Ghosts X → PartKind → TrialFault → Type 0
+Excused S kind (fault.New e) = e ≡ new.OutOfMemory
+Excused S kind (fault.Store e) = (e ≡ store.Full) × TooFew S.COSTS kind 16
+Excused S kind (fault.Level e) = ⊥
+Excused S kind fault.OutOfMemory = Unit {0}

@@ -9,7 +9,7 @@ ghost use Rattle.store.specs.Parts.{kind_letter};
 ghost use Rattle.store.specs.Settle.{column};
 ghost use Rattle.trial.specs.declared.faults.TrialFault.TheVariants.{OutOfMemory};
 ghost use Rattle.trial.specs.Cases.{case_text};
-ghost use Rattle.trial.specs.Trials.{Excused, LeafRows, OverLeaves, Tried, first_of};
+ghost use Rattle.trial.specs.Trials.{Excused, LeafRows, OverLeaves, TooFew, Tried, first_of};
 
 mod faults;
 
@@ -59,7 +59,7 @@ impl Case {
 
     /// Puts the part on trial in a new store.
     pub fn try_part<S: Store + Drop>(self, heap: Global) -> Result<Trial, TrialFault>
-        ensures { MatchResult result (λ t. Tried S.Store self.kind self.a self.b t) (λ e. Excused e) }
+        ensures { MatchResult result (λ t. Tried S.Store self.kind self.a self.b t) (λ e. Excused S.Store self.kind e) }
     {
         let mut store = S::new(heap, CELLS)?;
         let place = place_over_leaves(&mut store, self.kind)?;
@@ -115,7 +115,7 @@ fn first_operand(kind: PartKind, signal: usize) -> usize
 
 // Places a part over the leaves 0 and 1.
 fn place_over_leaves<S: Store>(store: &mut S, kind: PartKind) -> Result<Placement, StoreFault>
-    ensures { MatchResult result (λ p. OverLeaves S.Store kind store.new p) (λ e. e ≡ Full) }
+    ensures { MatchResult result (λ p. OverLeaves S.Store kind store.new p) (λ e. (e ≡ Full) × TooFew S.Store.COSTS kind (S.Store.means store.old).free) }
 {
     let a = store.place(PartKind::Leaf.code(), 0, 0)?;
     let b = store.place(PartKind::Leaf.code(), 1, 0)?;
