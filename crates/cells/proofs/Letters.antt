@@ -1,8 +1,9 @@
 -- Lists of cells of any type, and the letters that they give. Assumes nothing.
-use Rattle.std.specs.Prelude.{◌≡◌, ℕ, ◌+◌, ◌<◌, List, [], ◌∷◌, ◌++◌, length, take, drop, slice_index_or, slice_set}
-use Rattle.std.proofs.Common.{ap, ◌∙◌, arith}
-use Rattle.std.proofs.Math.Path.{refl, sym}
-use Rattle.std.proofs.lemmas.List.{map_push, take_more, take_more_set, length-set, drop-set-lt, drop-drop}
+use Rattle.std.specs.Prelude.{◌≡◌, ℕ, ◌+◌, ◌<◌, List, [], ◌∷◌, ◌++◌, length, take, slice_index_or, slice_set}
+use Rattle.std.proofs.Common.{◌∙◌, arith}
+use Rattle.std.proofs.Math.Path.{refl}
+use Rattle.std.proofs.lemmas.List.{map_push, take_more, take_more_set, length-set, drop-set-lt}
+use Rattle.std.proofs.lemmas.Grind.{drop_more_same}
 use Rattle.level.specs.declared.letter.Letter.{Letter}
 use Rattle.level.specs.declared.Level.{Ghosts}
 use Rattle.store.specs.Settle.{column}
@@ -21,11 +22,6 @@ module _ {C : Type 0} (letter : C → List Letter → List Letter → Letter) (l
   unfolding letters_after
   letters_push cells c = letters_append cells (c ∷ []) []
 
--- what is past the row that was written is as it was
-rest_more : {X : Type 0} (work old : List X) (i : ℕ) (v : X) → drop i work ≡ drop i old → drop (i + 1) (slice_set work i v) ≡ drop (i + 1) old
-rest_more work old i v e =
-    drop-set-lt (i + 1) work i v (omega arith) ∙ sym (drop-drop 1 i work) ∙ ap (drop 1) e ∙ drop-drop 1 i old
-
 module _ {X C : Type 0} (L : Ghosts X) (letter : C → List Letter → List Letter → Letter) (cells : List C) where
   pub filled_none : (leaves old : List X) → Filled L letter cells leaves old old 0
   unfolding letters_after
@@ -36,12 +32,7 @@ module _ {X C : Type 0} (L : Ghosts X) (letter : C → List Letter → List Lett
   filled_more leaves old work i v c hc hw at_i f level = record {
     lanewise = λ k h.
         let x : List Letter = column L k leaves in
-        let before : List Letter = letters_of letter x (take i cells) in
-        let here : L.letters v k ≡ letter c x before =
-        level k h ∙ ap (letter c x) (f.lanewise k h) in
-        ap (column L k) (take_more_set work i v hw) ∙ map_push (λ w. L.letters w k) (take i work) v
-        ∙ ap (λ y. y ++ L.letters v k ∷ []) (f.lanewise k h) ∙ ap (λ y. before ++ y ∷ []) here
-        ∙ sym (letters_push letter x (take i cells) c) ∙ ap (λ y. letters_of letter x (take i cells ++ y ∷ [])) at_i ∙ ap (letters_of letter x) (sym (take_more cells i c hc));
-    rest = rest_more work old i v f.rest;
+        grind (arith, level k h, f.lanewise k h, take_more_set work i v hw, map_push (λ w. L.letters w k) (take i work) v, letters_push letter x (take i cells) c, take_more cells i c hc);
+    rest = drop-set-lt (i + 1) work i v (omega arith) ∙ drop_more_same work old i f.rest;
     long = length-set work i v ∙ f.long;
   }

@@ -1,10 +1,9 @@
 -- A part as it is read means what was asked for. Assumes nothing.
-use Rattle.std.proofs.Common.{◌≡◌, ℕ, ◌≤◌, List, Some, ap, ◌∙◌, arith}
+use Rattle.std.proofs.Common.{◌≡◌, ℕ, ◌≤◌, List, Some, arith}
 use Rattle.std.proofs.lemmas.Grind.{common_steps}
 use Rattle.level.specs.declared.letter.Letter.{Letter}
 use Rattle.store.specs.declared.part.PartKind.{PartKind}
 use Rattle.store.specs.Parts.{kind_at, kind_of, part_letter, price}
-use Rattle.cells.specs.declared.part.Part.{Part}
 use Rattle.cells.specs.Read.{part_of, gate_costs, gate_letter}
 
 -- a kind that was read of a code
@@ -12,15 +11,8 @@ pub kind_named : (code : ℕ) (kind : PartKind) → kind_of code ≡ Some kind �
 kind_named = grind (arith, common_steps)
 
 -- a part over its operands has the letter that was asked for
-gate_means : (kind : PartKind) (a b : ℕ) (leaves before : List Letter) → gate_letter (part_of kind a b) leaves before ≡ part_letter kind a b leaves before
+pub gate_means : (kind : PartKind) (a b : ℕ) (leaves before : List Letter) → gate_letter (part_of kind a b) leaves before ≡ part_letter kind a b leaves before
 gate_means = grind (arith, common_steps)
-
-pub read_means : (kind : PartKind) (a b : ℕ) (part : Part) → part ≡ part_of kind a b → (leaves before : List Letter) → gate_letter part leaves before ≡ part_letter kind a b leaves before
-read_means kind a b part is leaves before = ap (λ p. gate_letter p leaves before) is ∙ gate_means kind a b leaves before
-
--- and is of the kind that was asked for
-pub same_kind : (f : PartKind → ℕ) (kind : PartKind) (a b : ℕ) (part : Part) → part ≡ part_of kind a b → f part.kind ≡ f kind
-same_kind f kind a b part is = ap (λ p. f p.kind) is
 
 -- every part costs a cell
 pub one_cell : (kind : PartKind) → price gate_costs kind ≡ 1

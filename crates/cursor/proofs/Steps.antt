@@ -1,5 +1,5 @@
 -- How what a rule comes to follows from what its parts come to, for the readers to come. Assumes nothing.
-use Rattle.std.proofs.Common.{◌≡◌, ℕ, zero, suc, ◌-◌, ◌<◌, ◌≤◌, Bool, true, false, ◌&&◌, ◌||◌, List, length, sym, refl, ap, ◌∙◌, arith}
+use Rattle.std.proofs.Common.{◌≡◌, ℕ, suc, ◌-◌, ◌<◌, ◌≤◌, true, false, List, length, sym, refl, ap, ◌∙◌, arith}
 use Rattle.std.proofs.lemmas.Bool.{cond-true, cond-false}
 use Rattle.words.specs.declared.token.Token.{Token}
 use Rattle.grammar.specs.Rules.{Part, Rule, mark, keyword, name, integer, ◌then◌, maybe, many, either, fork, part, inside}
@@ -7,23 +7,20 @@ use Rattle.grammar.specs.Sorts.{sort, starts, nullable, opens}
 use Rattle.grammar.specs.Trees.{Tree, both, none, some, end, more, left, right, one, other, nested}
 use Rattle.grammar.specs.Reading.{Out, got, wrong, deep, and_then, map_out, IsWord, read_word, read_many, plain, read_with, read_part, read}
 use Rattle.cursor.specs.declared.stop.Stop.{Stop}
-use Rattle.cursor.specs.declared.stop.Stop.TheVariants.{Unexpected, TooDeep, OutOfMemory}
 use Rattle.cursor.specs.Told.{Stopped}
 
 -- where each refusal of o is one of q
 pub stop_by : {A B : Type 0} (o : Out A) (q : Out B) → ((ws : List Token) → o ≡ wrong ws → q ≡ wrong ws) → ((ws : List Token) → o ≡ deep ws → q ≡ deep ws) → (e : Stop) (rest : List Token) → Stopped o e rest → Stopped q e rest
-stop_by o q f g Unexpected rest h = f rest h
-stop_by o q f g TooDeep rest h = g rest h
-stop_by o q f g OutOfMemory rest h = tt
+stop_by o q f g e rest h = grind arith
 
 stop_as : {A : Type 0} (o q : Out A) → q ≡ o → (e : Stop) (rest : List Token) → Stopped o e rest → Stopped q e rest
-stop_as o q eq = stop_by o q (λ ws h. eq ∙ h) (λ ws h. eq ∙ h)
+stop_as o q eq e rest h = rw eq h
 
 stop_map : {A B : Type 0} (f : A → B) (o : Out A) → (e : Stop) (rest : List Token) → Stopped o e rest → Stopped (map_out f o) e rest
-stop_map f o = stop_by o (map_out f o) (λ ws h. ap (map_out f) h) (λ ws h. ap (map_out f) h)
+stop_map f o e rest h = grind arith
 
 stop_first : {A B : Type 0} (o : Out A) (f : A → List Token → Out B) → (e : Stop) (rest : List Token) → Stopped o e rest → Stopped (and_then o f) e rest
-stop_first o f = stop_by o (and_then o f) (λ ws h. ap (λ x. and_then x f) h) (λ ws h. ap (λ x. and_then x f) h)
+stop_first o f e rest h = grind arith
 
 -- single words are read alike however deep
 module _ (n : ℕ) where
@@ -111,8 +108,7 @@ module _ (n : ℕ) where
 
     pub on_end : (f : ℕ) (ws : List Token) → starts a (sort ws) ≡ false → on a f ws ≡ got end ws
     unfolding on read_many
-    on_end zero ws s = refl
-    on_end (suc f) ws s = cond-false _ _ _ s
+    on_end f ws s = grind arith
 
     pub on_more : (f : ℕ) (ws : List Token) → starts a (sort ws) ≡ true → (t : Tree a) (us : List Token) → read n a ws ≡ got t us → on a (suc f) ws ≡ map_out (more t) (on a f us)
     unfolding on read_many read
@@ -158,12 +154,7 @@ module _ (n : ℕ) where
 
 -- the first word tells whether a then b begins, where a is never empty
 pub starts_then : (a b : Rule) (k : ℕ) → nullable a ≡ false → starts (a then b) k ≡ starts a k
-starts_then a b k e = go (starts a k) (nullable a) e
-  where
-    go : (s z : Bool) → z ≡ false → (s || (z && starts b k)) ≡ s
-    go true z q = refl
-    go false true q = let x : ◌≡◌ {A = ℕ} 0 1 = cc in absurd (omega arith)
-    go false false q = refl
+starts_then a b k e = grind arith
 
 -- a nesting part
 module _ (p : Part) (ws : List Token) where
@@ -181,5 +172,4 @@ module _ (p : Part) (ws : List Token) where
 
   pub part_wrong : (n : ℕ) → opens p (sort ws) ≡ false → read n (part p) ws ≡ wrong ws
   unfolding read read_with read_part
-  part_wrong zero s = cond-false _ _ _ s
-  part_wrong (suc n) s = cond-false _ _ _ s
+  part_wrong n s = grind arith

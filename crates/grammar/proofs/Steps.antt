@@ -1,5 +1,5 @@
 -- What it is to read a rule rightly, and that reading on after a part, or under another rule, keeps it. Assumes nothing.
-use Rattle.std.proofs.Common.{◌≡◌, ℕ, ◌≤◌, max, Bool, true, false, ◌⊎◌, List, [], ◌∷◌, ◌++◌, sym, refl, ap, ◌∙◌, subst, inl, inr, append_assoc, append-nil, arith}
+use Rattle.std.proofs.Common.{◌≡◌, ℕ, ◌+◌, ◌≤◌, max, Bool, true, false, ◌⊎◌, List, [], ◌∷◌, ◌++◌, sym, refl, ap, ◌∙◌, subst, inl, inr, append_assoc, append-nil, arith}
 use mathlib.Core.List.{append_cancel_left}
 use Rattle.words.specs.declared.token.Token.{Token}
 use Rattle.grammar.specs.Rules.{Rule}
@@ -8,44 +8,23 @@ use Rattle.grammar.specs.Trees.{Tree, words, depth}
 use Rattle.grammar.specs.Reading.{Out, got, wrong, deep, and_then, map_out}
 use Rattle.grammar.proofs.Checks.{continues}
 
--- the two have the same next word, where the end counts as a word
-abbrev pub Next : List Token → List Token → Type 0
-Next [] [] = Unit
-Next [] (v ∷ vs) = ⊥
-Next (u ∷ us) [] = ⊥
-Next (u ∷ us) (v ∷ vs) = u ≡ v
-
-pub next_same : (us : List Token) → Next us us
-next_same [] = tt
-next_same (u ∷ us) = refl
-
-next_more : (ws us vs : List Token) → Next us vs → Next (ws ++ us) (ws ++ vs)
-next_more [] us vs h = h
-next_more (w ∷ ws) us vs h = refl
-
-next_sort : (us vs : List Token) → Next us vs → sort us ≡ sort vs
-next_sort [] [] h = refl
-next_sort [] (v ∷ vs) h = absurd h
-next_sort (u ∷ us) [] h = absurd h
-next_sort (u ∷ us) (v ∷ vs) h = ap (λ w. sort (w ∷ [])) h
-
--- the words ts, and behind them words that cannot belong to the rule any more, begin with us and the next word of rest
+-- the words ts, and behind them words that cannot belong to the rule any more, begin with us and a word of the sort of rest's next
 pub record Hit (r : Rule) (ts us rest : List Token) : Type 0 where
   pub after : List Token
   pub on : List Token
   pub free : continues r (sort after) ≡ false
   pub same : ts ++ after ≡ us ++ on
-  pub meets : Next on rest
+  pub meets : sort on ≡ sort rest
 
-module _ {r : Rule} {ts us rest : List Token} (ws : List Token) (e : ws ≡ us ++ rest) (h : Hit r ts us rest) where
-  hit_next : Next (ts ++ h.after) ws
-  hit_next = subst (λ x. Next x ws) (sym h.same) (subst (Next (us ++ h.on)) (sym e) (next_more us h.on rest h.meets))
+sort_behind : (us vs ws : List Token) → sort vs ≡ sort ws → sort (us ++ vs) ≡ sort (us ++ ws)
+sort_behind [] vs ws e = e
+sort_behind (u ∷ us) vs ws e = refl
 
-  pub hit_sort : sort (ts ++ h.after) ≡ sort ws
-  hit_sort = next_sort (ts ++ h.after) ws hit_next
+pub hit_sort : {r : Rule} {ts us rest : List Token} (ws : List Token) → ws ≡ us ++ rest → (h : Hit r ts us rest) → sort (ts ++ h.after) ≡ sort ws
+hit_sort {us = us} {rest = rest} ws e h = let x = sort_behind us h.on rest h.meets in cc
 
 pub hit_second : {r : Rule} {ts rest : List Token} (w : Token) (us ws : List Token) → ws ≡ w ∷ us ++ rest → (h : Hit r ts (w ∷ us) rest) → second (ts ++ h.after) ≡ second ws
-hit_second {rest = rest} w us ws e h = ap second h.same ∙ (next_sort (us ++ h.on) (us ++ rest) (next_more us h.on rest h.meets) ∙ ap second (sym e))
+hit_second {rest = rest} w us ws e h = let x = sort_behind us h.on rest h.meets in cc
 
 -- the same words under a rule that fewer words continue
 pub hit_under : {r : Rule} {ts us rest : List Token} (a : Rule) → ((after : List Token) → continues r (sort after) ≡ false → continues a (sort after) ≡ false) → Hit r ts us rest → Hit a ts us rest
@@ -89,14 +68,6 @@ Reads n r ws (deep rest) = Fails true n r ws rest
 abbrev pub Only : ℕ → Rule → List Token → List Token → Type 0
 Only n a us rest = (u : Tree a) → depth u ≤ n → Hit a (words u) us rest → words u ≡ us
 
-within_from : {r : Rule} (f : Bool) (n : ℕ) (u : Tree r) → depth u ≤ n → Within f n u
-within_from true n u d = d
-within_from false n u d = tt
-
-within_via : {a r : Rule} (f : Bool) (n m : ℕ) (u : Tree r) (v : Tree a) → (depth u ≤ m → depth v ≤ n) → Within f m u → Within f n v
-within_via true n m u v h w = h w
-within_via false n m u v h w = tt
-
 -- an a makes an r, with the words pre before it and tl behind it
 module _ {a r : Rule} (n m : ℕ) (pre tl ws ws' : List Token) (lift : Tree a → Tree r) (long : (t : Tree a) → words (lift t) ≡ pre ++ (words t ++ tl)) (down : (t : Tree a) → depth t ≤ n → depth (lift t) ≤ m) (here : Viable m r pre) (whole : ws' ≡ pre ++ ws) where
   longer : (t : Tree a) (us vs : List Token) → words t ≡ us ++ vs → words (lift t) ≡ (pre ++ us) ++ (vs ++ tl)
@@ -116,7 +87,7 @@ module _ {a r : Rule} (n m : ℕ) (pre tl ws ws' : List Token) (lift : Tree a �
     before = pre ++ x.before;
     whole = whole ∙ (ap (λ l. pre ++ l) x.whole ∙ sym (append_assoc pre x.before rest));
     right = viable_via x.before x.right;
-    stops = λ u w h. let (v, d, k) = back u h in x.stops v (within_via f n m u v d w) k;
+    stops = λ u w h. let (v, d, k) = back u h in x.stops v (grind arith) k;
     goes = goes_via f x.before rest x.goes;
   }
 
@@ -126,7 +97,7 @@ module _ {a r : Rule} (n m : ℕ) (pre ws ws' : List Token) (f : Tree a → Tree
   maps_fails : (g : Bool) (rest : List Token) → Fails g n a ws rest → Fails g m r ws' rest
   maps_fails g rest x =
       fails_via n m pre [] ws ws' f (λ t. same t ∙ ap (λ l. pre ++ l) (sym (append-nil (words t)))) down here whole g rest x
-      (λ u h. let (v, e, k) = back x.before rest x.whole (λ v d k. absurd (x.stops v (within_from g n v d) k)) u h in (v, λ d. up v (subst (λ w. depth w ≤ m) e d), k))
+      (λ u h. let (v, e, k) = back x.before rest x.whole (λ v d k. absurd (x.stops v (grind arith) k)) u h in (v, λ d. up v (subst (λ w. depth w ≤ m) e d), k))
 
   pub maps : (o : Out (Tree a)) → Reads n a ws o → Reads m r ws' (map_out f o)
   maps (got t rest) x = record {
@@ -139,6 +110,19 @@ module _ {a r : Rule} (n m : ℕ) (pre ws ws' : List Token) (f : Tree a → Tree
   maps (wrong rest) x = maps_fails false rest x
   maps (deep rest) x = maps_fails true rest x
 
+-- a tree that hits is f of an a's
+abbrev pub Comes : {a r : Rule} → ℕ → List Token → (Tree a → Tree r) → Type 0
+Comes {a} {r} n ws f = (us rest : List Token) → ws ≡ us ++ rest → Only n a us rest → (u : Tree r) → Hit r (words u) us rest → (v : Tree a) × (u ≡ f v)
+
+-- an a makes an r of the same words
+pub alike : {a r : Rule} (n m : ℕ) (ws : List Token) (f : Tree a → Tree r) → ((t : Tree a) → words (f t) ≡ words t) → ((t : Tree a) → depth (f t) + n ≡ depth t + m) → ((after : List Token) → continues r (sort after) ≡ false → continues a (sort after) ≡ false) → Comes n ws f → (o : Out (Tree a)) → Reads n a ws o → Reads m r ws (map_out f o)
+alike {a} {r} n m ws f same nests free comes =
+    maps n m [] ws ws f same
+    (λ t d. let x = nests t in omega arith)
+    (λ t d. let x = nests t in omega arith)
+    (inl refl) refl
+    (λ us rest e k u h. let (v, q) = comes us rest e k u h in (v, q, hit_under a free (subst (λ l. Hit r l us rest) (ap words q ∙ same v) h)))
+
 -- an a and a b behind it make an r
 module _ {a b r : Rule} (n : ℕ) (ws : List Token) (g : Tree a → Tree b → Tree r) (same : (x : Tree a) (y : Tree b) → words (g x y) ≡ words x ++ words y) (deeper : (x : Tree a) (y : Tree b) → depth (g x y) ≡ max (depth x) (depth y)) (z : Tree b) (flat : depth z ≡ 0)
     (behind : (y : Tree b) (after : List Token) → continues r (sort after) ≡ false → (continues a (sort (words y ++ after)) ≡ false) × (continues b (sort after) ≡ false))
@@ -150,11 +134,9 @@ module _ {a b r : Rule} (n : ℕ) (ws : List Token) (g : Tree a → Tree b → T
   seqs_fails f rest x =
       fails_via n n [] (words z) ws ws (λ v. g v z) (λ v. same v z) (λ v d. let e = deeper v z in omega arith) (inl refl) refl f rest x
       (λ u h.
-      let (v, y, e) = split x.before rest x.whole u h in (
-        v,
-        λ d. let k = deeper v y in let l = subst (λ w. depth w ≤ n) e d in omega arith,
-        record { after = words y ++ h.after; on = h.on; free = (behind y h.after h.free).0; same = joint u v y e h; meets = h.meets },
-      ))
+      let (v, y, e) = split x.before rest x.whole u h in
+      let k : Hit a (words v) x.before rest = record { after = words y ++ h.after; on = h.on; free = (behind y h.after h.free).0; same = joint u v y e h; meets = h.meets } in
+      (v, λ d. let j = deeper v y in let l = subst (λ w. depth w ≤ n) e d in omega arith, k))
 
   -- behind t, which is read
   module _ (t : Tree a) (left : List Token) (d : Done n a ws t left) where
@@ -162,17 +144,9 @@ module _ {a b r : Rule} (n : ℕ) (ws : List Token) (g : Tree a → Tree b → T
     seqs_back us rest e u h =
         let (x, y, k) = split (words t ++ us) rest (d.whole ∙ (ap (λ l. words t ++ l) e ∙ sym (append_assoc (words t) us rest))) u h in
         let j = joint u x y k h ∙ append_assoc (words t) us h.on in
-        let q = d.only x (record { after = words y ++ h.after; on = us ++ h.on; free = (behind y h.after h.free).0; same = j; meets = subst (Next (us ++ h.on)) (sym e) (next_more us h.on rest h.meets) }) in (
-          y,
-          k ∙ ap (λ v. g v y) q,
-          record {
-            after = h.after;
-            on = h.on;
-            free = (behind y h.after h.free).1;
-            same = append_cancel_left (words t) (words y ++ h.after) (us ++ h.on) (ap (λ v. words v ++ (words y ++ h.after)) (sym q) ∙ j);
-            meets = h.meets;
-          },
-        )
+        let q = d.only x (record { after = words y ++ h.after; on = us ++ h.on; free = (behind y h.after h.free).0; same = j; meets = sort_behind us h.on rest h.meets ∙ ap sort (sym e) }) in
+        let m = append_cancel_left (words t) (words y ++ h.after) (us ++ h.on) (ap (λ v. words v ++ (words y ++ h.after)) (sym q) ∙ j) in
+        (y, k ∙ ap (λ v. g v y) q, record { after = h.after; on = h.on; free = (behind y h.after h.free).1; same = m; meets = h.meets })
 
     seqs_got : (o : Out (Tree b)) → Reads n b left o → Reads n r ws (map_out (g t) o)
     seqs_got =

@@ -1,8 +1,5 @@
 use Rattle.std.proofs.Common.{◌≡◌, ◌+◌, ◌-◌, map, length, vec_items, ap, ◌∙◌, arith}
 use Rattle.std.proofs.lemmas.List.{length-append, length-map}
-use Rattle.store.specs.Meaning.{at}
-use Rattle.cells.specs.Cells.{letters_of}
-use Rattle.cells.specs.Nands.{nand_letter}
 use Rattle.cells.specs.Patterns.{stage_cell}
 use Rattle.cells.proofs.Patterns.{pattern_means, pattern_sound, some_cells}
 use Rattle.cells.proofs.nand.NandCellCell.expand.Goals as goal
@@ -12,21 +9,16 @@ returns-clause-expanded c =
     let part = c.args.part in
     let stages = c.pattern.result.now in
     let cells = vec_items c.args.cells.now.list in
-    let new = vec_items c.lay.new.cells.list in
     let more = map (stage_cell part (length cells)) stages in
     let many : length more ≡ length stages = simp length-map in
-    let longer : length new ≡ length cells + length more = ap length c.lay.ensures.items ∙ length-append cells more in
+    let longer : length (vec_items c.lay.new.cells.list) ≡ length cells + length more = ap length c.lay.ensures.items ∙ length-append cells more in
     let some = some_cells part.kind in
-    let signal = length cells + (length stages - 1) in
-    let last : c.len.result - 1 ≡ signal = omega (arith, c.pattern.ensures.priced, c.len.ensures) in
+    let last : c.len.result - 1 ≡ length cells + (length stages - 1) = omega (arith, c.pattern.ensures.priced, c.len.ensures) in
     record {
       more = more;
       grown = c.lay.ensures.items;
       few = omega (arith, c.pattern.ensures.priced);
       last = omega (arith, c.pattern.ensures.priced, c.len.ensures);
       sound = λ old. rw c.lay.ensures.items (pattern_sound part cells stages old c.requires.there c.pattern.ensures.wired);
-      means = λ leaves.
-          ap (λ y. at (letters_of nand_letter leaves y) (c.len.result - 1)) c.lay.ensures.items
-          ∙ ap (at (letters_of nand_letter leaves _)) last
-          ∙ pattern_means part cells stages leaves c.requires.there c.pattern.ensures.wired c.pattern.ensures.realised;
+      means = λ leaves. cc (c.lay.ensures.items, last, pattern_means part cells stages leaves c.requires.there c.pattern.ensures.wired c.pattern.ensures.realised);
     }

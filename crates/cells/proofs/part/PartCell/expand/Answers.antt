@@ -1,13 +1,11 @@
-use Rattle.std.proofs.Common.{◌≡◌, [], ◌∷◌, length, vec_items, ap, ◌∙◌, arith}
+use Rattle.std.proofs.Common.{[], ◌∷◌, length, vec_items, ap, ◌∙◌, arith}
+use Rattle.std.proofs.lemmas.Grind.{common_steps}
 use Rattle.std.proofs.lemmas.List.{get_or_push, length_push}
-use Rattle.level.specs.declared.letter.Letter.TheVariants.{Unknown}
-use Rattle.store.specs.Meaning.{at}
-use Rattle.cells.specs.Cells.{letters_of}
-use Rattle.cells.specs.Read.{gate_dangles, gate_letter}
+use Rattle.level.specs.declared.letter.Letter.{Letter}
+use Rattle.cells.specs.Read.{gate_letter}
 use Rattle.cells.specs.Laws.{letters_length}
 use Rattle.cells.proofs.Letters.{letters_push}
 use Rattle.cells.proofs.Parts.{one_cell}
-use Rattle.cells.proofs.Places.{sound_push}
 use Rattle.cells.proofs.part.PartCell.expand.Goals as goal
 
 pub returns-clause-expanded : goal.returns-clause-expanded
@@ -21,11 +19,8 @@ returns-clause-expanded c =
       grown = c.push.ensures.items;
       few = omega (arith, one_cell part.kind);
       last = omega (arith, c.push.ensures.at, ap length c.push.ensures.items ∙ length_push cells part);
-      sound = λ old. sound_push gate_dangles cells new part c.push.ensures.items old c.requires.there;
+      sound = λ old n d h. grind (arith, common_steps, old n d);
       means = λ leaves.
-          let before = letters_of gate_letter leaves cells in
-          let here : length before ≡ signal = letters_length gate_letter leaves cells [] ∙ omega (arith, c.push.ensures.at) in
-          ap (λ y. at (letters_of gate_letter leaves y) signal) c.push.ensures.items
-          ∙ ap (λ y. at y signal) (letters_push gate_letter leaves cells part)
-          ∙ get_or_push before (gate_letter part leaves before) Unknown signal here;
+          let e = letters_length gate_letter leaves cells [] in
+          grind (arith, c.push.ensures.items, c.push.ensures.at, letters_push gate_letter leaves cells part, get_or_push {X = Letter});
     }
