@@ -1,15 +1,15 @@
 -- What taking a sign tells of a list of parts that the sign parts, for the readers to come. Assumes nothing.
-use Rattle.std.proofs.Common.{◌≡◌, ℕ, ◌<◌, true, false, List, length, sym, ap, ◌∙◌, arith}
+use Rattle.std.proofs.Common.{◌≡◌, ℕ, ◌<◌, true, false, List, length, Result, Ok, Err, MatchResult, sym, ap, ◌∙◌, arith}
 use Rattle.words.specs.declared.token.Sign.{Sign}
 use Rattle.words.specs.declared.token.Token.{Token}
-use Rattle.grammar.specs.Rules.{Rule, mark, ◌then◌, many}
+use Rattle.grammar.specs.Rules.{Rule, mark, ◌then◌, many, either}
 use Rattle.grammar.specs.Sorts.{sort, starts}
-use Rattle.grammar.specs.Trees.{Tree, both, end, more}
-use Rattle.grammar.specs.Reading.{got, wrong, IsWord, read_word, read}
+use Rattle.grammar.specs.Trees.{Tree, both, end, more, left, right}
+use Rattle.grammar.specs.Reading.{Out, got, wrong, IsWord, read_word, read}
 use Rattle.cursor.specs.declared.stop.Stop.{Stop}
-use Rattle.cursor.specs.declared.stop.Stop.TheVariants.{Unexpected}
-use Rattle.cursor.specs.Told.{Stopped}
-use Rattle.cursor.proofs.Steps.{word_is, then_got, then_stop_second, Goes, goes_turn, goes_end, goes_stop}
+use Rattle.cursor.specs.declared.stop.Stop.TheVariants.{Unexpected, OutOfMemory}
+use Rattle.cursor.specs.Told.{Stopped, Wrote}
+use Rattle.cursor.proofs.Steps.{word_is, then_got, then_stop_second, left_got, right_got, right_stop, Goes, goes_turn, goes_end, goes_stop}
 
 -- a single word that is taken is read, and one that is missing is where reading stops
 module _ (n : ℕ) (r : Rule) (w : IsWord r) (ws : List Token) where
@@ -19,12 +19,41 @@ module _ (n : ℕ) (r : Rule) (w : IsWord r) (ws : List Token) where
   pub word_stop : (e : Stop) (rest : List Token) → Stopped (read_word r ws) e rest → Stopped (read n r ws) e rest
   word_stop e rest h = rw (word_is n r w ws) h
 
+-- a reader whose last call can fail for want of memory alone
+pub wrote_last : {A V D P : Type 0} (o : Out A) (f : A → D → D) (before : D) (rest : List Token) (after : D) → (P → (t : A) × (o ≡ got t rest) × (after ≡ f t before)) → (r : Result V Stop) → MatchResult r (λ _. P) (λ e. e ≡ OutOfMemory) → Wrote o f before r rest after
+wrote_last o f before rest after g (Ok v) h = g h
+wrote_last o f before rest after g (Err e) h = rw h tt
+
+-- a reader whose last call is another reader
+pub wrote_as : {A B V D : Type 0} (o : Out A) (q : Out B) (f : A → D → D) (g : B → D → D) (before : D) (rest : List Token) (after : D) → ((t : A) → o ≡ got t rest → (u : B) × (q ≡ got u rest) × (g u before ≡ f t before)) → ((e : Stop) → Stopped o e rest → Stopped q e rest) → (r : Result V Stop) → Wrote o f before r rest after → Wrote q g before r rest after
+wrote_as o q f g before rest after goes stops (Ok v) (t, e, x) = let u = goes t e in (u.0, u.1, x ∙ sym u.2)
+wrote_as o q f g before rest after goes stops (Err e) h = stops e h
+
 -- a sign is taken exactly where it is the next word; where it is not, nothing is passed
 pub sign_taken : (s : Sign) (ws : List Token) (m : Tree (mark s)) (us : List Token) → read_word (mark s) ws ≡ got m us → (starts (mark s) (sort ws) ≡ true) × (length us < length ws)
 sign_taken s ws m us e = grind arith
 
 pub sign_missing : (s : Sign) (ws rest : List Token) → read_word (mark s) ws ≡ wrong rest → (starts (mark s) (sort ws) ≡ false) × (rest ≡ ws)
 sign_missing s ws rest e = grind arith
+
+pub sign_passed_by : (s : Sign) (ws rest : List Token) (e : Stop) → e ≡ Unexpected → Stopped (read_word (mark s) ws) e rest → (starts (mark s) (sort ws) ≡ false) × (rest ≡ ws)
+sign_passed_by s ws rest e stops h = sign_missing s ws rest (rw stops at h)
+
+-- s | b, where it is tried whether an s can be taken
+module _ (n : ℕ) (s : Sign) (b : Rule) (ws us : List Token) where
+  pub sign_got : (m : Tree (mark s)) → read_word (mark s) ws ≡ got m us → read n (either (mark s) b) ws ≡ got (left m) us
+  sign_got m e = left_got n (mark s) b ws (sign_taken s ws m us e).0 m us (word_got n (mark s) tt ws m us e)
+
+  module _ (d : Stop) (stops : d ≡ Unexpected) (missing : Stopped (read_word (mark s) ws) d us) where
+    pub no_sign_got : (t : Tree b) (vs : List Token) → read n b us ≡ got t vs → read n (either (mark s) b) ws ≡ got (right t) vs
+    no_sign_got t vs h =
+        let x = sign_passed_by s ws us d stops missing in
+        right_got n (mark s) b ws x.0 t vs (ap (read n b) (sym x.1) ∙ h)
+
+    pub no_sign_stop : (e : Stop) (rest : List Token) → Stopped (read n b us) e rest → Stopped (read n (either (mark s) b) ws) e rest
+    no_sign_stop e rest h =
+        let x = sign_passed_by s ws us d stops missing in
+        right_stop n (mark s) b ws x.0 e rest (rw x.1 at h)
 
 -- {s a}: one turn of a loop that reads an a as long as it takes an s
 module _ (n : ℕ) (s : Sign) (a : Rule) {D : Type 0} (emit : Tree (many (mark s then a)) → D → D) (put : Tree (mark s then a) → D → D) (ws₀ : List Token) (d₀ : D) where
@@ -46,6 +75,6 @@ module _ (n : ℕ) (s : Sign) (a : Rule) {D : Type 0} (emit : Tree (many (mark s
     -- the sign is not there
     pub list_end : ((d : D) → emit end d ≡ d) → (e : Stop) → e ≡ Unexpected → (rest : List Token) → Stopped (read_word (mark s) ws) e rest → (u : Tree (many (mark s then a))) × (read n (many (mark s then a)) ws₀ ≡ got u rest) × (d ≡ emit u d₀)
     list_end law e stops rest missing =
-        let x = sign_missing s ws rest (rw stops at missing) in
+        let x = sign_passed_by s ws rest e stops missing in
         let whole = goes_end n (mark s then a) emit put ws₀ d₀ law ws d goes (grind arith) in
         (whole.0, whole.1 ∙ ap (got whole.0) (sym x.1), whole.2)

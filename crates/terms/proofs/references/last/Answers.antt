@@ -20,10 +20,9 @@ returns-in_err-last-clause-told c = λ n.
 pub returns-clause-told : goal.returns-clause-told
 returns-clause-told c = λ n.
     let m = c.in_ok-take.ensures.told in
-    let i = c.in_ok-last.ensures.told in
-    (
+    let i = c.in_ok-last.ensures.told in (
       some (both m.0 i.0),
       maybe_some n (mark Colon then integer) _ (starts_then (mark Colon) integer _ refl ∙ sym c.if-not-at.ensures) _ _
-      (then_got n (mark Colon) integer _ _ _ _ _ (word_got n (mark Colon) tt _ _ _ m.1) (word_got n integer tt _ _ _ i.1)),
+          (then_got n (mark Colon) integer _ _ _ _ _ (word_got n (mark Colon) tt _ _ _ m.1) (word_got n integer tt _ _ _ i.1)),
       ap (λ x. x.value) i.2,
     )

@@ -41,11 +41,10 @@ returns-clause-told c = λ n.
     let i = c.in_ok-first.ensures.told in
     let q = c.in_ok-last.ensures.told n in
     let b = c.in_ok-take.ensures.told in
-    let parts = subscript_is m.0 i.0 q.0 b.0 in
-    (
+    let parts = subscript_is m.0 i.0 q.0 b.0 in (
       both m.0 (both i.0 (both q.0 b.0)),
       then_got n (mark LeftBracket) (integer then maybe (mark Colon then integer) then mark RightBracket) _ _ _ _ _ (word_got n (mark LeftBracket) tt _ _ _ m.1)
-      (then_got n integer (maybe (mark Colon then integer) then mark RightBracket) _ _ _ _ _ (word_got n (integer) tt _ _ _ i.1)
-      (then_got n (maybe (mark Colon then integer)) (mark RightBracket) _ _ _ _ _ q.1 (word_got n (mark RightBracket) tt _ _ _ b.1))),
+          (then_got n integer (maybe (mark Colon then integer) then mark RightBracket) _ _ _ _ _ (word_got n (integer) tt _ _ _ i.1)
+          (then_got n (maybe (mark Colon then integer)) (mark RightBracket) _ _ _ _ _ q.1 (word_got n (mark RightBracket) tt _ _ _ b.1))),
       grind arith,
     )

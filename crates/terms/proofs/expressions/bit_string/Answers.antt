@@ -1,0 +1,39 @@
+use Rattle.std.proofs.Common.{sym, refl, ap, ◌∙◌, arith}
+use Rattle.std.proofs.lemmas.Result.{err_from_is_err_and}
+use Rattle.words.specs.declared.token.Sign.TheVariants.{Backslash, Dollar, Not, AndReduce, OrReduce, XorReduce}
+use Rattle.grammar.specs.Rules.{mark, integer, ◌then◌, either, integers, ref, prefix_sign}
+use Rattle.grammar.specs.Trees.{both, left, right}
+use Rattle.grammar.specs.Drafts.{term_lists}
+use Rattle.grammar.specs.Reading.{read}
+use Rattle.cursor.proofs.Steps.{then_got, then_stop, then_stop_second, left_got, right_got, right_stop}
+use Rattle.cursor.proofs.MoreSteps.{word_got, word_stop, wrote_last, sign_taken, sign_missing}
+use Rattle.terms.specs.Expressions.{bits_rows, string_rule, string_rows, sized_rule, sized_rows, sign_of}
+use Rattle.terms.proofs.Terms.{bits_is, string_is, sized_is}
+use Rattle.terms.proofs.expressions.bit_string.Goals as goal
+
+pub returns-in_err-place-clause-told : goal.returns-in_err-place-clause-told
+returns-in_err-place-clause-told c = λ n.
+    let p = err_from_is_err_and c.from_residual.result c.from_residual.ensures.1 in
+    rw (p.1, p.2) (then_stop n (mark Backslash) (integers then mark Backslash) _ _ _ (word_stop n (mark Backslash) tt _ _ _ c.in_err-place.ensures.told))
+
+pub returns-in_err-integers-clause-told : goal.returns-in_err-integers-clause-told
+returns-in_err-integers-clause-told c = λ n.
+    let p = err_from_is_err_and c.from_residual-in_err-integers.result c.from_residual-in_err-integers.ensures.1 in
+    rw (p.1, p.2) (then_stop_second n (mark Backslash) (integers then mark Backslash) _ c.in_ok-place.ensures.told.0 _ (word_got n (mark Backslash) tt _ _ _ c.in_ok-place.ensures.told.1) _ _
+    (then_stop n integers (mark Backslash) _ _ _ (c.in_err-integers.ensures.told n)))
+
+pub returns-in_err-take-clause-told : goal.returns-in_err-take-clause-told
+returns-in_err-take-clause-told c = λ n.
+    let p = err_from_is_err_and c.from_residual-in_err-take.result c.from_residual-in_err-take.ensures.1 in
+    rw (p.1, p.2) (then_stop_second n (mark Backslash) (integers then mark Backslash) _ c.in_ok-place.ensures.told.0 _ (word_got n (mark Backslash) tt _ _ _ c.in_ok-place.ensures.told.1) _ _
+    (then_stop_second n (integers) (mark Backslash) _ (c.in_ok-integers.ensures.told n).0 _ ((c.in_ok-integers.ensures.told n).1) _ _
+    (word_stop n (mark Backslash) tt _ _ _ c.in_err-take.ensures.told)))
+
+pub returns-clause-told : goal.returns-clause-told
+returns-clause-told c = λ n.
+    let m = c.in_ok-place.ensures.told in
+    let i = (c.in_ok-integers.ensures.told n) in
+    let b = c.in_ok-take.ensures.told in
+    let reads = then_got n (mark Backslash) (integers then mark Backslash) _ _ _ _ _ (word_got n (mark Backslash) tt _ _ _ m.1) (then_got n integers (mark Backslash) _ _ _ _ _ i.1 (word_got n (mark Backslash) tt _ _ _ b.1)) in
+    let l = c.len-last.ensures in
+    wrote_last (read n string_rule c.args.cursor.now) (λ t. string_rows t c.args.driven) (term_lists c.args.terms.now) _ _ (λ h. (both m.0 (both i.0 b.0), reads, string_is m.0 i.0 b.0 _ _ _ _ (term_lists c.args.terms.now) _ m.2 i.2 (omega arith) h)) _ c.push.ensures
