@@ -1,15 +1,15 @@
 -- What taking a sign tells of a list of parts that the sign parts, for the readers to come. Assumes nothing.
-use Rattle.std.proofs.Common.{◌≡◌, ℕ, ◌<◌, true, false, List, length, Result, Ok, Err, MatchResult, sym, ap, ◌∙◌, arith}
+use Rattle.std.proofs.Common.{◌≡◌, ℕ, ◌+◌, ◌<◌, true, false, List, length, Result, Ok, Err, MatchResult, sym, ap, ◌∙◌, add-one, arith}
 use Rattle.words.specs.declared.token.Sign.{Sign}
 use Rattle.words.specs.declared.token.Token.{Token}
-use Rattle.grammar.specs.Rules.{Rule, mark, ◌then◌, many, either}
-use Rattle.grammar.specs.Sorts.{sort, starts}
-use Rattle.grammar.specs.Trees.{Tree, both, end, more, left, right}
+use Rattle.grammar.specs.Rules.{Part, Rule, mark, ◌then◌, many, either, part, inside}
+use Rattle.grammar.specs.Sorts.{sort, starts, opens}
+use Rattle.grammar.specs.Trees.{Tree, both, end, more, left, right, nested}
 use Rattle.grammar.specs.Reading.{Out, got, wrong, IsWord, read_word, read}
 use Rattle.cursor.specs.declared.stop.Stop.{Stop}
-use Rattle.cursor.specs.declared.stop.Stop.TheVariants.{Unexpected, OutOfMemory}
+use Rattle.cursor.specs.declared.stop.Stop.TheVariants.{Unexpected, TooDeep, OutOfMemory}
 use Rattle.cursor.specs.Told.{Stopped, Wrote}
-use Rattle.cursor.proofs.Steps.{word_is, then_got, then_stop_second, left_got, right_got, right_stop, Goes, goes_turn, goes_end, goes_stop}
+use Rattle.cursor.proofs.Steps.{word_is, then_got, then_stop_second, left_got, right_got, right_stop, Goes, goes_turn, goes_end, goes_stop, part_got, part_stop, part_deep}
 
 -- a single word that is taken is read, and one that is missing is where reading stops
 module _ (n : ℕ) (r : Rule) (w : IsWord r) (ws : List Token) where
@@ -78,3 +78,17 @@ module _ (n : ℕ) (s : Sign) (a : Rule) {D : Type 0} (emit : Tree (many (mark s
         let x = sign_passed_by s ws rest e stops missing in
         let whole = goes_end n (mark s then a) emit put ws₀ d₀ law ws d goes (grind arith) in
         (whole.0, whole.1 ∙ ap (got whole.0) (sym x.1), whole.2)
+
+-- a nesting part, where m nestings are left
+module _ (p : Part) (ws : List Token) (m : ℕ) (begins : opens p (sort ws) ≡ true) where
+  -- and n within it
+  module _ (n : ℕ) (more_left : m ≡ n + 1) where
+    pub nested_got : (t : Tree (inside p)) (us : List Token) → read n (inside p) ws ≡ got t us → read m (part p) ws ≡ got (nested p t) us
+    nested_got t us h = rw (more_left, add-one) (part_got p ws n begins t us h)
+
+    pub nested_stop : (e : Stop) (rest : List Token) → Stopped (read n (inside p) ws) e rest → Stopped (read m (part p) ws) e rest
+    nested_stop e rest h = rw (more_left, add-one) (part_stop p ws n begins e rest h)
+
+  -- none is left
+  pub nested_deep : (e : Stop) → (e ≡ TooDeep) × (m ≡ 0) → Stopped (read m (part p) ws) e ws
+  nested_deep e h = rw (h.0, h.1) (part_deep p ws begins)

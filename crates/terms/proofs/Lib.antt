@@ -1,3 +1,4 @@
 pub mod Commas
 pub mod Subscripts
 pub mod Terms
+pub mod Levels

@@ -5,12 +5,14 @@ use Rattle.grammar.specs.declared.draft.Listed.{Listed}
 use Rattle.grammar.specs.declared.draft.Number.{Number}
 use Rattle.grammar.specs.declared.draft.Reference.{Reference}
 use Rattle.grammar.specs.declared.draft.Form.TheVariants.{Bits, Literal, Sized}
+use Rattle.grammar.specs.declared.draft.Form.{Form}
 use Rattle.grammar.specs.declared.draft.Gate.TheVariants.{And, Or, Xor}
-use Rattle.grammar.specs.Rules.{mark, integer, ref, integers}
+use Rattle.grammar.specs.Rules.{mark, integer, ref, integers, prefix_sign}
 use Rattle.grammar.specs.Trees.{Tree, mark_at, both, left, right}
-use Rattle.grammar.specs.Drafts.{TermLists, number_of, ref_of, listed, with_node, with_digits, node_at}
+use Rattle.grammar.specs.Drafts.{TermLists, number_of, ref_of, listed, with_node, with_digits, node_at, root, joined, under}
 use Rattle.cursor.specs.Told.{mark_place}
-use Rattle.terms.specs.Expressions.{bits_rows, string_rows, sized_rows, sign_of}
+use Rattle.terms.specs.Expressions.{bits_rows, string_rows, sized_rows, sign_of, form_of}
+use Rattle.terms.specs.declared.expressions.PrefixSign.{PrefixSign}
 
 pub bits_is : (t : Tree ref) (k : Option ℕ) (r : Reference) → r ≡ ref_of t → (before after : TermLists) → after ≡ with_node before (node_at r.name.place k (Bits r)) → after ≡ bits_rows t k before
 bits_is t k r e before after h = grind arith
@@ -32,3 +34,12 @@ or_reduce_is (mark_at q) p e = rw e refl
 
 pub xor_reduce_is : (m : Tree (mark XorReduce)) (p : ℕ) → p ≡ mark_place m → record { place = p; gate = Some Xor } ≡ sign_of (right (right (right m)))
 xor_reduce_is (mark_at q) p e = rw e refl
+
+pub joined_is : (form : ℕ → ℕ → Form) (k : Option ℕ) (p q first second : ℕ) (before mid rows after : TermLists) → p ≡ q → first ≡ root before → second ≡ root mid → mid ≡ rows → after ≡ with_node mid (node_at p k (form first second)) → after ≡ joined q k form before rows
+joined_is form k p q first second before mid rows after e f s m h = rw (h, f, s, e, m) refl
+
+pub under_is : (s : Tree prefix_sign) (k : Option ℕ) (x : PrefixSign) → x ≡ sign_of s → (form : Form) (operand : ℕ) (mid rows after : TermLists) → form ≡ form_of x operand → operand ≡ root mid → mid ≡ rows → after ≡ with_node mid (node_at x.place k form) → after ≡ under s k rows
+under_is (left (mark_at p)) k x e form operand mid rows after f o m h = rw (h, f, o, m, e) refl
+under_is (right (left (mark_at p))) k x e form operand mid rows after f o m h = rw (h, f, o, m, e) refl
+under_is (right (right (left (mark_at p)))) k x e form operand mid rows after f o m h = rw (h, f, o, m, e) refl
+under_is (right (right (right (mark_at p)))) k x e form operand mid rows after f o m h = rw (h, f, o, m, e) refl

@@ -1,0 +1,258 @@
+use Rattle.std.proofs.Common.{refl, sym, ap, ◌∙◌, arith}
+use Rattle.std.proofs.lemmas.Result.{err_from_is_err_and}
+use Rattle.words.specs.declared.token.Sign.TheVariants.{Comma, LeftParen, RightParen, And, Or, Xor, Backslash, Dollar}
+use Rattle.grammar.specs.declared.draft.Gate.TheVariants.{And as AndGate, Or as OrGate, Xor as XorGate}
+use Rattle.grammar.specs.declared.draft.Form.TheVariants.{Comma as CommaForm, Join}
+use Rattle.grammar.specs.Rules.{group, signed, mark, name, integer, ◌then◌, maybe, many, either, part, integers, ref, primary, prefix_sign, prefix, and, xor, or, expr}
+use Rattle.grammar.specs.Trees.{both, left, right, nested}
+use Rattle.grammar.specs.Reading.{read}
+use Rattle.grammar.specs.Drafts.{term_lists, primary_rows, prefix_rows, and_rows, xor_rows, or_rows, expr_rows, more_ors, more_xors, more_ands, more_prefixes}
+use Rattle.cursor.proofs.Steps.{then_got, then_stop, then_stop_second, left_got, left_stop, right_got, right_stop, goes_start, starts_then, part_wrong}
+use Rattle.cursor.proofs.MoreSteps.{word_got, word_stop, wrote_last, wrote_as, list_turn, list_stop, list_end, nested_got, nested_stop, nested_deep}
+use Rattle.terms.specs.Subscripts.{subscript_rule}
+use Rattle.terms.specs.Expressions.{bits_rows, string_rule, string_rows, sized_rule, sized_rows, group_rows}
+use Rattle.terms.proofs.Terms.{joined_is, under_is}
+use Rattle.terms.proofs.Levels.{put_or, put_or_first, put_xor, put_xor_first, put_and, put_and_first, put_prefix, put_prefix_first}
+use Rattle.terms.proofs.expressions.+expression.Goals as goal
+
+pub expr-returns-in_err-or-clause-told : goal.expr-returns-in_err-or-clause-told
+expr-returns-in_err-or-clause-told t c =
+    let p = err_from_is_err_and c.from_residual.result c.from_residual.ensures.1 in
+    rw (p.1, p.2) (then_stop c.args.left or (many (mark Comma then or)) _ _ _ c.in_err-or.ensures.told)
+
+pub expr-loop-place-init : goal.expr-loop-place-init
+expr-loop-place-init t c =
+    record { goes = goes_start c.args.left (mark Comma then or) (λ t. more_ors t c.args.driven) (put_or c.args.driven) _ (term_lists c.or.new.terms); behind = omega arith }
+
+pub expr-returns-in_err-or-2-clause-told : goal.expr-returns-in_err-or-2-clause-told
+expr-returns-in_err-or-2-clause-told t c =
+    let first = c.in_ok-or.ensures.told in
+    let m = c.in-Ok.ensures.told in
+    let p = err_from_is_err_and c.from_residual-in_err-or-2.result c.from_residual-in_err-or-2.ensures.1 in
+    rw (p.1, p.2) (then_stop_second c.args.left or (many (mark Comma then or)) _ first.0 _ first.1 _ _
+    (list_stop c.args.left Comma or (λ t. more_ors t c.args.driven) (put_or c.args.driven) _ (term_lists c.or.new.terms) _ (term_lists c.loop-place.terms) c.loop-place.invariant.goes m.0 _ m.1 _ _ c.in_err-or-2.ensures.told))
+
+pub expr-loop-place-preserved : goal.expr-loop-place-preserved
+expr-loop-place-preserved t c =
+    let m = c.in-Ok.ensures in
+    let a = c.in_ok-or-2.ensures in
+    let before = term_lists c.loop-place.terms in
+    record {
+      goes = list_turn c.args.left Comma or (λ t. more_ors t c.args.driven) (put_or c.args.driven) _ (term_lists c.or.new.terms) _ (term_lists c.loop-place.terms) c.loop-place.invariant.goes m.told.0 _ m.told.1 (put_or_first c.args.driven) a.told.0 _ a.told.1 a.forward _
+        (joined_is CommaForm c.args.driven _ _ _ _ before (term_lists c.or-in-Ok.new.terms) (or_rows a.told.0 c.args.driven before) _ m.told.2 c.root-first.ensures c.root-second.ensures a.told.2 c.in_ok-push.ensures);
+      behind = omega (arith, m.forward, a.forward, c.loop-place.invariant.behind);
+    }
+
+pub expr-returns-clause-told : goal.expr-returns-clause-told
+expr-returns-clause-told t c =
+    let first = c.in_ok-or.ensures.told in
+    let rest = list_end c.args.left Comma or (λ t. more_ors t c.args.driven) (put_or c.args.driven) _ (term_lists c.or.new.terms) _ (term_lists c.loop-place.terms) c.loop-place.invariant.goes (λ d. refl) _ c.in_default.ensures.stops _ c.in_default.ensures.told in
+    (both first.0 rest.0, then_got c.args.left or (many (mark Comma then or)) _ _ _ _ _ first.1 rest.1, rest.2 ∙ ap (more_ors rest.0 c.args.driven) first.2)
+
+pub or-returns-in_err-xor-clause-told : goal.or-returns-in_err-xor-clause-told
+or-returns-in_err-xor-clause-told t c =
+    let p = err_from_is_err_and c.from_residual.result c.from_residual.ensures.1 in
+    rw (p.1, p.2) (then_stop c.args.left xor (many (mark Or then xor)) _ _ _ c.in_err-xor.ensures.told)
+
+pub or-loop-place-init : goal.or-loop-place-init
+or-loop-place-init t c =
+    record { goes = goes_start c.args.left (mark Or then xor) (λ t. more_xors t c.args.driven) (put_xor c.args.driven) _ (term_lists c.xor.new.terms); behind = omega arith }
+
+pub or-returns-in_err-xor-2-clause-told : goal.or-returns-in_err-xor-2-clause-told
+or-returns-in_err-xor-2-clause-told t c =
+    let first = c.in_ok-xor.ensures.told in
+    let m = c.in-Ok.ensures.told in
+    let p = err_from_is_err_and c.from_residual-in_err-xor-2.result c.from_residual-in_err-xor-2.ensures.1 in
+    rw (p.1, p.2) (then_stop_second c.args.left xor (many (mark Or then xor)) _ first.0 _ first.1 _ _
+    (list_stop c.args.left Or xor (λ t. more_xors t c.args.driven) (put_xor c.args.driven) _ (term_lists c.xor.new.terms) _ (term_lists c.loop-place.terms) c.loop-place.invariant.goes m.0 _ m.1 _ _ c.in_err-xor-2.ensures.told))
+
+pub or-loop-place-preserved : goal.or-loop-place-preserved
+or-loop-place-preserved t c =
+    let m = c.in-Ok.ensures in
+    let a = c.in_ok-xor-2.ensures in
+    let before = term_lists c.loop-place.terms in
+    record {
+      goes = list_turn c.args.left Or xor (λ t. more_xors t c.args.driven) (put_xor c.args.driven) _ (term_lists c.xor.new.terms) _ (term_lists c.loop-place.terms) c.loop-place.invariant.goes m.told.0 _ m.told.1 (put_xor_first c.args.driven) a.told.0 _ a.told.1 a.forward _
+        (joined_is (Join OrGate) c.args.driven _ _ _ _ before (term_lists c.xor-in-Ok.new.terms) (xor_rows a.told.0 c.args.driven before) _ m.told.2 c.root-first.ensures c.root-second.ensures a.told.2 c.in_ok-push.ensures);
+      behind = omega (arith, m.forward, a.forward, c.loop-place.invariant.behind);
+    }
+
+pub or-returns-clause-told : goal.or-returns-clause-told
+or-returns-clause-told t c =
+    let first = c.in_ok-xor.ensures.told in
+    let rest = list_end c.args.left Or xor (λ t. more_xors t c.args.driven) (put_xor c.args.driven) _ (term_lists c.xor.new.terms) _ (term_lists c.loop-place.terms) c.loop-place.invariant.goes (λ d. refl) _ c.in_default.ensures.stops _ c.in_default.ensures.told in
+    (both first.0 rest.0, then_got c.args.left xor (many (mark Or then xor)) _ _ _ _ _ first.1 rest.1, rest.2 ∙ ap (more_xors rest.0 c.args.driven) first.2)
+
+pub xor-returns-in_err-and-clause-told : goal.xor-returns-in_err-and-clause-told
+xor-returns-in_err-and-clause-told t c =
+    let p = err_from_is_err_and c.from_residual.result c.from_residual.ensures.1 in
+    rw (p.1, p.2) (then_stop c.args.left and (many (mark Xor then and)) _ _ _ c.in_err-and.ensures.told)
+
+pub xor-loop-place-init : goal.xor-loop-place-init
+xor-loop-place-init t c =
+    record { goes = goes_start c.args.left (mark Xor then and) (λ t. more_ands t c.args.driven) (put_and c.args.driven) _ (term_lists c.and.new.terms); behind = omega arith }
+
+pub xor-returns-in_err-and-2-clause-told : goal.xor-returns-in_err-and-2-clause-told
+xor-returns-in_err-and-2-clause-told t c =
+    let first = c.in_ok-and.ensures.told in
+    let m = c.in-Ok.ensures.told in
+    let p = err_from_is_err_and c.from_residual-in_err-and-2.result c.from_residual-in_err-and-2.ensures.1 in
+    rw (p.1, p.2) (then_stop_second c.args.left and (many (mark Xor then and)) _ first.0 _ first.1 _ _
+    (list_stop c.args.left Xor and (λ t. more_ands t c.args.driven) (put_and c.args.driven) _ (term_lists c.and.new.terms) _ (term_lists c.loop-place.terms) c.loop-place.invariant.goes m.0 _ m.1 _ _ c.in_err-and-2.ensures.told))
+
+pub xor-loop-place-preserved : goal.xor-loop-place-preserved
+xor-loop-place-preserved t c =
+    let m = c.in-Ok.ensures in
+    let a = c.in_ok-and-2.ensures in
+    let before = term_lists c.loop-place.terms in
+    record {
+      goes = list_turn c.args.left Xor and (λ t. more_ands t c.args.driven) (put_and c.args.driven) _ (term_lists c.and.new.terms) _ (term_lists c.loop-place.terms) c.loop-place.invariant.goes m.told.0 _ m.told.1 (put_and_first c.args.driven) a.told.0 _ a.told.1 a.forward _
+        (joined_is (Join XorGate) c.args.driven _ _ _ _ before (term_lists c.and-in-Ok.new.terms) (and_rows a.told.0 c.args.driven before) _ m.told.2 c.root-first.ensures c.root-second.ensures a.told.2 c.in_ok-push.ensures);
+      behind = omega (arith, m.forward, a.forward, c.loop-place.invariant.behind);
+    }
+
+pub xor-returns-clause-told : goal.xor-returns-clause-told
+xor-returns-clause-told t c =
+    let first = c.in_ok-and.ensures.told in
+    let rest = list_end c.args.left Xor and (λ t. more_ands t c.args.driven) (put_and c.args.driven) _ (term_lists c.and.new.terms) _ (term_lists c.loop-place.terms) c.loop-place.invariant.goes (λ d. refl) _ c.in_default.ensures.stops _ c.in_default.ensures.told in
+    (both first.0 rest.0, then_got c.args.left and (many (mark Xor then and)) _ _ _ _ _ first.1 rest.1, rest.2 ∙ ap (more_ands rest.0 c.args.driven) first.2)
+
+pub and-returns-in_err-prefix-clause-told : goal.and-returns-in_err-prefix-clause-told
+and-returns-in_err-prefix-clause-told t c =
+    let p = err_from_is_err_and c.from_residual.result c.from_residual.ensures.1 in
+    rw (p.1, p.2) (then_stop c.args.left prefix (many (mark And then prefix)) _ _ _ c.in_err-prefix.ensures.told)
+
+pub and-loop-place-init : goal.and-loop-place-init
+and-loop-place-init t c =
+    record { goes = goes_start c.args.left (mark And then prefix) (λ t. more_prefixes t c.args.driven) (put_prefix c.args.driven) _ (term_lists c.prefix.new.terms); behind = omega arith }
+
+pub and-returns-in_err-prefix-2-clause-told : goal.and-returns-in_err-prefix-2-clause-told
+and-returns-in_err-prefix-2-clause-told t c =
+    let first = c.in_ok-prefix.ensures.told in
+    let m = c.in-Ok.ensures.told in
+    let p = err_from_is_err_and c.from_residual-in_err-prefix-2.result c.from_residual-in_err-prefix-2.ensures.1 in
+    rw (p.1, p.2) (then_stop_second c.args.left prefix (many (mark And then prefix)) _ first.0 _ first.1 _ _
+    (list_stop c.args.left And prefix (λ t. more_prefixes t c.args.driven) (put_prefix c.args.driven) _ (term_lists c.prefix.new.terms) _ (term_lists c.loop-place.terms) c.loop-place.invariant.goes m.0 _ m.1 _ _ c.in_err-prefix-2.ensures.told))
+
+pub and-loop-place-preserved : goal.and-loop-place-preserved
+and-loop-place-preserved t c =
+    let m = c.in-Ok.ensures in
+    let a = c.in_ok-prefix-2.ensures in
+    let before = term_lists c.loop-place.terms in
+    record {
+      goes = list_turn c.args.left And prefix (λ t. more_prefixes t c.args.driven) (put_prefix c.args.driven) _ (term_lists c.prefix.new.terms) _ (term_lists c.loop-place.terms) c.loop-place.invariant.goes m.told.0 _ m.told.1 (put_prefix_first c.args.driven) a.told.0 _ a.told.1 a.forward _
+        (joined_is (Join AndGate) c.args.driven _ _ _ _ before (term_lists c.prefix-in-Ok.new.terms) (prefix_rows a.told.0 c.args.driven before) _ m.told.2 c.root-first.ensures c.root-second.ensures a.told.2 c.in_ok-push.ensures);
+      behind = omega (arith, m.forward, a.forward, c.loop-place.invariant.behind);
+    }
+
+pub and-returns-clause-told : goal.and-returns-clause-told
+and-returns-clause-told t c =
+    let first = c.in_ok-prefix.ensures.told in
+    let rest = list_end c.args.left And prefix (λ t. more_prefixes t c.args.driven) (put_prefix c.args.driven) _ (term_lists c.prefix.new.terms) _ (term_lists c.loop-place.terms) c.loop-place.invariant.goes (λ d. refl) _ c.in_default.ensures.stops _ c.in_default.ensures.told in
+    (both first.0 rest.0, then_got c.args.left prefix (many (mark And then prefix)) _ _ _ _ _ first.1 rest.1, rest.2 ∙ ap (more_prefixes rest.0 c.args.driven) first.2)
+
+pub group-returns-then-not-at-clause-told : goal.group-returns-then-not-at-clause-told
+group-returns-then-not-at-clause-told t c =
+    part_wrong group _ c.args.left (sym c.if-not-at.ensures)
+
+pub group-returns-in_err-left-clause-told : goal.group-returns-in_err-left-clause-told
+group-returns-in_err-left-clause-told t c =
+    let p = err_from_is_err_and c.from_residual.result c.from_residual.ensures.1 in
+    rw (p.1, p.2) (nested_deep group _ _ (sym c.if-not-at.ensures) _ c.in_err-left.ensures)
+
+pub group-returns-in_err-expr-clause-told : goal.group-returns-in_err-expr-clause-told
+group-returns-in_err-expr-clause-told t c =
+    let m = c.in_ok-take.ensures.told in
+    let p = err_from_is_err_and c.from_residual-in_err-expr.result c.from_residual-in_err-expr.ensures.1 in
+    rw (p.1, p.2) (nested_stop group _ _ (sym c.if-not-at.ensures) c.in_ok-left.left c.in_ok-left.ensures _ _
+    (then_stop_second c.in_ok-left.left (mark LeftParen) (expr then mark RightParen) _ m.0 _ (word_got c.in_ok-left.left (mark LeftParen) tt _ _ _ m.1) _ _
+    (then_stop c.in_ok-left.left expr (mark RightParen) _ _ _ c.in_err-expr.ensures.told)))
+
+pub group-returns-in_err-take-2-clause-told : goal.group-returns-in_err-take-2-clause-told
+group-returns-in_err-take-2-clause-told t c =
+    let m = c.in_ok-take.ensures.told in
+    let a = c.in_ok-expr.ensures.told in
+    let p = err_from_is_err_and c.from_residual-in_err-take-2.result c.from_residual-in_err-take-2.ensures.1 in
+    rw (p.1, p.2) (nested_stop group _ _ (sym c.if-not-at.ensures) c.in_ok-left.left c.in_ok-left.ensures _ _
+    (then_stop_second c.in_ok-left.left (mark LeftParen) (expr then mark RightParen) _ m.0 _ (word_got c.in_ok-left.left (mark LeftParen) tt _ _ _ m.1) _ _
+    (then_stop_second c.in_ok-left.left expr (mark RightParen) _ a.0 _ a.1 _ _
+    (word_stop c.in_ok-left.left (mark RightParen) tt _ _ _ c.in_err-take-2.ensures.told))))
+
+pub group-returns-clause-told : goal.group-returns-clause-told
+group-returns-clause-told t c =
+    let m = c.in_ok-take.ensures.told in
+    let a = c.in_ok-expr.ensures.told in
+    let r = c.in_ok-take-2.ensures.told in
+    (
+      nested group (both m.0 (both a.0 r.0)),
+      nested_got group _ _ (sym c.if-not-at.ensures) c.in_ok-left.left c.in_ok-left.ensures _ _
+      (then_got c.in_ok-left.left (mark LeftParen) (expr then mark RightParen) _ _ _ _ _ (word_got c.in_ok-left.left (mark LeftParen) tt _ _ _ m.1)
+      (then_got c.in_ok-left.left expr (mark RightParen) _ _ _ _ _ a.1 (word_got c.in_ok-left.left (mark RightParen) tt _ _ _ r.1))),
+      a.2,
+    )
+
+pub prefix-returns-then-not-at_prefix_sign-clause-told : goal.prefix-returns-then-not-at_prefix_sign-clause-told
+prefix-returns-then-not-at_prefix_sign-clause-told t c =
+    wrote_as (read c.args.left primary c.args.cursor.now) (read c.args.left prefix c.args.cursor.now) (λ t. primary_rows t c.args.driven) (λ t. prefix_rows t c.args.driven) (term_lists c.args.terms.now) _ _
+    (λ a e. (right a, right_got c.args.left (part signed) primary _ (sym c.if-not-at_prefix_sign.ensures) a _ e, refl))
+    (λ e h. right_stop c.args.left (part signed) primary _ (sym c.if-not-at_prefix_sign.ensures) e _ h)
+    _ c.primary.ensures.told
+
+pub prefix-returns-in_err-left-clause-told : goal.prefix-returns-in_err-left-clause-told
+prefix-returns-in_err-left-clause-told t c =
+    let p = err_from_is_err_and c.from_residual.result c.from_residual.ensures.1 in
+    rw (p.1, p.2) (left_stop c.args.left (part signed) primary _ (sym c.if-not-at_prefix_sign.ensures) _ _
+    (nested_deep signed _ _ (sym c.if-not-at_prefix_sign.ensures) _ c.in_err-left.ensures))
+
+pub prefix-returns-in_err-sign-clause-told : goal.prefix-returns-in_err-sign-clause-told
+prefix-returns-in_err-sign-clause-told t c =
+    let p = err_from_is_err_and c.from_residual-in_err-sign.result c.from_residual-in_err-sign.ensures.1 in
+    rw (p.1, p.2) (left_stop c.args.left (part signed) primary _ (sym c.if-not-at_prefix_sign.ensures) _ _
+    (nested_stop signed _ _ (sym c.if-not-at_prefix_sign.ensures) c.in_ok-left.left c.in_ok-left.ensures _ _
+    (then_stop c.in_ok-left.left prefix_sign prefix _ _ _ (c.in_err-sign.ensures.told c.in_ok-left.left))))
+
+pub prefix-returns-in_err-prefix-clause-told : goal.prefix-returns-in_err-prefix-clause-told
+prefix-returns-in_err-prefix-clause-told t c =
+    let s = c.in_ok-sign.ensures.told c.in_ok-left.left in
+    let p = err_from_is_err_and c.from_residual-in_err-prefix.result c.from_residual-in_err-prefix.ensures.1 in
+    rw (p.1, p.2) (left_stop c.args.left (part signed) primary _ (sym c.if-not-at_prefix_sign.ensures) _ _
+    (nested_stop signed _ _ (sym c.if-not-at_prefix_sign.ensures) c.in_ok-left.left c.in_ok-left.ensures _ _
+    (then_stop_second c.in_ok-left.left prefix_sign prefix _ s.0 _ s.1 _ _ c.in_err-prefix.ensures.told)))
+
+pub prefix-returns-clause-told : goal.prefix-returns-clause-told
+prefix-returns-clause-told t c =
+    let s = c.in_ok-sign.ensures.told c.in_ok-left.left in
+    let a = c.in_ok-prefix.ensures.told in
+    let before = term_lists c.args.terms.now in
+    let reads = left_got c.args.left (part signed) primary _ (sym c.if-not-at_prefix_sign.ensures) _ _ (nested_got signed _ _ (sym c.if-not-at_prefix_sign.ensures) c.in_ok-left.left c.in_ok-left.ensures _ _ (then_got c.in_ok-left.left prefix_sign prefix _ _ _ _ _ s.1 a.1)) in
+    wrote_last (read c.args.left prefix c.args.cursor.now) (λ t. prefix_rows t c.args.driven) before _ _
+    (λ h. (left (nested signed (both s.0 a.0)), reads, under_is s.0 c.args.driven _ s.2 _ _ (term_lists c.prefix.new.terms) (prefix_rows a.0 c.args.driven before) _ c.form.ensures c.root-operand.ensures a.2 h))
+    _ c.push.ensures
+
+pub primary-returns-then-at-clause-told : goal.primary-returns-then-at-clause-told
+primary-returns-then-at-clause-told t c =
+    wrote_as (read c.args.left ref c.args.cursor.now) (read c.args.left primary c.args.cursor.now) (λ t. bits_rows t c.args.driven) (λ t. primary_rows t c.args.driven) (term_lists c.args.terms.now) _ _
+    (λ a e. (left a, left_got c.args.left ref (either string_rule (either sized_rule (part group))) _ (starts_then name (maybe subscript_rule) _ refl ∙ sym c.if-at.ensures) a _ e, refl))
+    (λ e h. left_stop c.args.left ref (either string_rule (either sized_rule (part group))) _ (starts_then name (maybe subscript_rule) _ refl ∙ sym c.if-at.ensures) e _ h)
+    _ (c.bits.ensures.told c.args.left)
+
+pub primary-returns-then-at-2-clause-told : goal.primary-returns-then-at-2-clause-told
+primary-returns-then-at-2-clause-told t c =
+    wrote_as (read c.args.left string_rule c.args.cursor.now) (read c.args.left primary c.args.cursor.now) (λ t. string_rows t c.args.driven) (λ t. primary_rows t c.args.driven) (term_lists c.args.terms.now) _ _
+    (λ a e. (right (left a), right_got c.args.left ref (either string_rule (either sized_rule (part group))) _ (starts_then name (maybe subscript_rule) _ refl ∙ sym c.if-at.ensures) _ _ (left_got c.args.left string_rule (either sized_rule (part group)) _ (starts_then (mark Backslash) (integers then mark Backslash) _ refl ∙ sym c.if-at-2.ensures) a _ e), refl))
+    (λ e h. right_stop c.args.left ref (either string_rule (either sized_rule (part group))) _ (starts_then name (maybe subscript_rule) _ refl ∙ sym c.if-at.ensures) e _ (left_stop c.args.left string_rule (either sized_rule (part group)) _ (starts_then (mark Backslash) (integers then mark Backslash) _ refl ∙ sym c.if-at-2.ensures) e _ h))
+    _ (c.bit_string.ensures.told c.args.left)
+
+pub primary-returns-then-at-3-clause-told : goal.primary-returns-then-at-3-clause-told
+primary-returns-then-at-3-clause-told t c =
+    wrote_as (read c.args.left sized_rule c.args.cursor.now) (read c.args.left primary c.args.cursor.now) (λ t. sized_rows t c.args.driven) (λ t. primary_rows t c.args.driven) (term_lists c.args.terms.now) _ _
+    (λ a e. (right (right (left a)), right_got c.args.left ref (either string_rule (either sized_rule (part group))) _ (starts_then name (maybe subscript_rule) _ refl ∙ sym c.if-at.ensures) _ _ (right_got c.args.left string_rule (either sized_rule (part group)) _ (starts_then (mark Backslash) (integers then mark Backslash) _ refl ∙ sym c.if-at-2.ensures) _ _ (left_got c.args.left sized_rule (part group) _ (starts_then integer (mark Dollar then integer) _ refl ∙ sym c.if-at-3.ensures) a _ e)), refl))
+    (λ e h. right_stop c.args.left ref (either string_rule (either sized_rule (part group))) _ (starts_then name (maybe subscript_rule) _ refl ∙ sym c.if-at.ensures) e _ (right_stop c.args.left string_rule (either sized_rule (part group)) _ (starts_then (mark Backslash) (integers then mark Backslash) _ refl ∙ sym c.if-at-2.ensures) e _ (left_stop c.args.left sized_rule (part group) _ (starts_then integer (mark Dollar then integer) _ refl ∙ sym c.if-at-3.ensures) e _ h)))
+    _ (c.sized.ensures.told c.args.left)
+
+pub primary-returns-clause-told : goal.primary-returns-clause-told
+primary-returns-clause-told t c =
+    wrote_as (read c.args.left (part group) c.args.cursor.now) (read c.args.left primary c.args.cursor.now) (λ t. group_rows t c.args.driven) (λ t. primary_rows t c.args.driven) (term_lists c.args.terms.now) _ _
+    (λ a e. (right (right (right a)), right_got c.args.left ref (either string_rule (either sized_rule (part group))) _ (starts_then name (maybe subscript_rule) _ refl ∙ sym c.if-at.ensures) _ _ (right_got c.args.left string_rule (either sized_rule (part group)) _ (starts_then (mark Backslash) (integers then mark Backslash) _ refl ∙ sym c.if-at-2.ensures) _ _ (right_got c.args.left sized_rule (part group) _ (starts_then integer (mark Dollar then integer) _ refl ∙ sym c.if-at-3.ensures) _ _ (e))), refl))
+    (λ e h. right_stop c.args.left ref (either string_rule (either sized_rule (part group))) _ (starts_then name (maybe subscript_rule) _ refl ∙ sym c.if-at.ensures) e _ (right_stop c.args.left string_rule (either sized_rule (part group)) _ (starts_then (mark Backslash) (integers then mark Backslash) _ refl ∙ sym c.if-at-2.ensures) e _ (right_stop c.args.left sized_rule (part group) _ (starts_then integer (mark Dollar then integer) _ refl ∙ sym c.if-at-3.ensures) e _ (h))))
+    _ c.group.ensures.told
