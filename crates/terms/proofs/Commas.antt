@@ -2,7 +2,7 @@
 use Rattle.std.proofs.Common.{◌≡◌, List, [], ◌∷◌, ◌++◌, Some, refl}
 use Rattle.words.specs.declared.token.Sign.TheVariants.{Comma}
 use Rattle.grammar.specs.Rules.{mark, integer, ◌then◌, many}
-use Rattle.grammar.specs.Trees.{Tree, mark_at, both, more, end}
+use Rattle.grammar.specs.Trees.{Tree, mark_at, both, more}
 use Rattle.grammar.specs.declared.draft.Listed.{Listed}
 use Rattle.grammar.specs.Drafts.{listed_at, more_listed}
 use Rattle.cursor.specs.Told.{mark_place}

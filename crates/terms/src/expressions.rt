@@ -1,13 +1,10 @@
 //! Expressions. `left` is how many nestings may still be opened.
 ghost use Rattle.std.specs.Prelude.{◌≡◌, ℕ, ◌+◌, ◌<◌, length, OnOk, MatchResult};
-ghost use Rattle.words.specs.declared.token.Sign.TheVariants.{Backslash, Dollar};
-ghost use Rattle.grammar.specs.Rules.{group as group_part, mark, integer, ◌then◌, part, integers as integers_rule, ref, primary as primary_rule, prefix_sign as prefix_sign_rule, prefix as prefix_rule, and as and_rule, xor as xor_rule, or as or_rule, expr as expr_rule};
+ghost use Rattle.grammar.specs.Rules.{group as group_part, signed, part, ref, primary as primary_rule, prefix_sign as prefix_sign_rule, prefix as prefix_rule, and as and_rule, xor as xor_rule, or as or_rule, expr as expr_rule};
 ghost use Rattle.grammar.specs.Sorts.{sort, opens};
-ghost use Rattle.grammar.specs.Rules.{signed};
-ghost use Rattle.grammar.specs.Trees.{left as left_tree, right as right_tree};
 ghost use Rattle.grammar.specs.Reading.{read};
 ghost use Rattle.grammar.specs.Promise.{deepest};
-ghost use Rattle.grammar.specs.Drafts.{root as root_row, term_lists, with_node, node_at, primary_rows, prefix_rows, and_rows, xor_rows, or_rows, expr_rows};
+ghost use Rattle.grammar.specs.Drafts.{term_lists, root as root_row, with_node, node_at, primary_rows, prefix_rows, and_rows, xor_rows, or_rows, expr_rows};
 ghost use Rattle.cursor.specs.Told.{Told, Wrote};
 ghost use Rattle.cursor.specs.declared.stop.Stop.TheVariants.{TooDeep, OutOfMemory};
 ghost use Rattle.terms.specs.Expressions.{bits_rows, string_rule, string_rows, sized_rule, sized_rows, group_rows, sign_of, form_of};
@@ -132,9 +129,9 @@ fn prefix(
     if !at_prefix_sign(cursor) {
         return primary(cursor, terms, driven, left);
     }
-    let left = nested(left)?;
+    let inner = nested(left)?;
     let sign = prefix_sign(cursor)?;
-    prefix(cursor, terms, driven, left)?;
+    prefix(cursor, terms, driven, inner)?;
     let operand = root(terms);
     push(terms, sign.place, driven, sign.form(operand))
 }
@@ -176,14 +173,14 @@ fn group(
     if !cursor.at(Sign::LeftParen) {
         return Err(Stop::Unexpected);
     }
-    let left = nested(left)?;
+    let inner = nested(left)?;
     cursor.take(Sign::LeftParen)?;
-    expr(cursor, terms, driven, left)?;
+    expr(cursor, terms, driven, inner)?;
     cursor.take(Sign::RightParen)?;
     Ok(())
 }
 
-// How many nestings may be opened within one that is opened here.
+// How many nestings may be opened within one more.
 fn nested(left: u8) -> Result<u8, Stop>
     ensures { MatchResult result (λ inner. left ≡ inner + 1) (λ e. (e ≡ TooDeep) × (left ≡ 0)) }
 {

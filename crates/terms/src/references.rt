@@ -29,8 +29,7 @@ fn optional_subscript(cursor: &mut Cursor<'_>) -> Result<Option<Subscript>, Stop
     if !cursor.at(Sign::LeftBracket) {
         return Ok(None);
     }
-    let subscript = subscript(cursor)?;
-    Ok(Some(subscript))
+    Ok(Some(subscript(cursor)?))
 }
 
 // Reads a subscript. Without a `:` the last is the first.
@@ -54,6 +53,5 @@ fn last(cursor: &mut Cursor<'_>, first: u16) -> Result<u16, Stop>
         return Ok(first);
     }
     cursor.take(Sign::Colon)?;
-    let last = cursor.take(AnyInteger)?;
-    Ok(last.value)
+    Ok(cursor.take(AnyInteger)?.value)
 }

@@ -6,7 +6,7 @@ use Rattle.grammar.specs.declared.draft.Form.TheVariants.{Comma as CommaForm, Jo
 use Rattle.grammar.specs.Rules.{group, signed, mark, name, integer, ◌then◌, maybe, many, either, part, integers, ref, primary, prefix_sign, prefix, and, xor, or, expr}
 use Rattle.grammar.specs.Trees.{both, left, right, nested}
 use Rattle.grammar.specs.Reading.{read}
-use Rattle.grammar.specs.Drafts.{term_lists, primary_rows, prefix_rows, and_rows, xor_rows, or_rows, expr_rows, more_ors, more_xors, more_ands, more_prefixes}
+use Rattle.grammar.specs.Drafts.{term_lists, primary_rows, prefix_rows, and_rows, xor_rows, or_rows, more_ors, more_xors, more_ands, more_prefixes}
 use Rattle.cursor.proofs.Steps.{then_got, then_stop, then_stop_second, left_got, left_stop, right_got, right_stop, goes_start, starts_then, part_wrong}
 use Rattle.cursor.proofs.MoreSteps.{word_got, word_stop, wrote_last, wrote_as, list_turn, list_stop, list_end, nested_got, nested_stop, nested_deep}
 use Rattle.terms.specs.Subscripts.{subscript_rule}
@@ -39,7 +39,7 @@ expr-loop-place-preserved t c =
     let before = term_lists c.loop-place.terms in
     record {
       goes = list_turn c.args.left Comma or (λ t. more_ors t c.args.driven) (put_or c.args.driven) _ (term_lists c.or.new.terms) _ (term_lists c.loop-place.terms) c.loop-place.invariant.goes m.told.0 _ m.told.1 (put_or_first c.args.driven) a.told.0 _ a.told.1 a.forward _
-        (joined_is CommaForm c.args.driven _ _ _ _ before (term_lists c.or-in-Ok.new.terms) (or_rows a.told.0 c.args.driven before) _ m.told.2 c.root-first.ensures c.root-second.ensures a.told.2 c.in_ok-push.ensures);
+          (joined_is CommaForm c.args.driven _ _ _ _ before (term_lists c.or-in-Ok.new.terms) (or_rows a.told.0 c.args.driven before) _ m.told.2 c.root-first.ensures c.root-second.ensures a.told.2 c.in_ok-push.ensures);
       behind = omega (arith, m.forward, a.forward, c.loop-place.invariant.behind);
     }
 
@@ -73,7 +73,7 @@ or-loop-place-preserved t c =
     let before = term_lists c.loop-place.terms in
     record {
       goes = list_turn c.args.left Or xor (λ t. more_xors t c.args.driven) (put_xor c.args.driven) _ (term_lists c.xor.new.terms) _ (term_lists c.loop-place.terms) c.loop-place.invariant.goes m.told.0 _ m.told.1 (put_xor_first c.args.driven) a.told.0 _ a.told.1 a.forward _
-        (joined_is (Join OrGate) c.args.driven _ _ _ _ before (term_lists c.xor-in-Ok.new.terms) (xor_rows a.told.0 c.args.driven before) _ m.told.2 c.root-first.ensures c.root-second.ensures a.told.2 c.in_ok-push.ensures);
+          (joined_is (Join OrGate) c.args.driven _ _ _ _ before (term_lists c.xor-in-Ok.new.terms) (xor_rows a.told.0 c.args.driven before) _ m.told.2 c.root-first.ensures c.root-second.ensures a.told.2 c.in_ok-push.ensures);
       behind = omega (arith, m.forward, a.forward, c.loop-place.invariant.behind);
     }
 
@@ -107,7 +107,7 @@ xor-loop-place-preserved t c =
     let before = term_lists c.loop-place.terms in
     record {
       goes = list_turn c.args.left Xor and (λ t. more_ands t c.args.driven) (put_and c.args.driven) _ (term_lists c.and.new.terms) _ (term_lists c.loop-place.terms) c.loop-place.invariant.goes m.told.0 _ m.told.1 (put_and_first c.args.driven) a.told.0 _ a.told.1 a.forward _
-        (joined_is (Join XorGate) c.args.driven _ _ _ _ before (term_lists c.and-in-Ok.new.terms) (and_rows a.told.0 c.args.driven before) _ m.told.2 c.root-first.ensures c.root-second.ensures a.told.2 c.in_ok-push.ensures);
+          (joined_is (Join XorGate) c.args.driven _ _ _ _ before (term_lists c.and-in-Ok.new.terms) (and_rows a.told.0 c.args.driven before) _ m.told.2 c.root-first.ensures c.root-second.ensures a.told.2 c.in_ok-push.ensures);
       behind = omega (arith, m.forward, a.forward, c.loop-place.invariant.behind);
     }
 
@@ -141,7 +141,7 @@ and-loop-place-preserved t c =
     let before = term_lists c.loop-place.terms in
     record {
       goes = list_turn c.args.left And prefix (λ t. more_prefixes t c.args.driven) (put_prefix c.args.driven) _ (term_lists c.prefix.new.terms) _ (term_lists c.loop-place.terms) c.loop-place.invariant.goes m.told.0 _ m.told.1 (put_prefix_first c.args.driven) a.told.0 _ a.told.1 a.forward _
-        (joined_is (Join AndGate) c.args.driven _ _ _ _ before (term_lists c.prefix-in-Ok.new.terms) (prefix_rows a.told.0 c.args.driven before) _ m.told.2 c.root-first.ensures c.root-second.ensures a.told.2 c.in_ok-push.ensures);
+          (joined_is (Join AndGate) c.args.driven _ _ _ _ before (term_lists c.prefix-in-Ok.new.terms) (prefix_rows a.told.0 c.args.driven before) _ m.told.2 c.root-first.ensures c.root-second.ensures a.told.2 c.in_ok-push.ensures);
       behind = omega (arith, m.forward, a.forward, c.loop-place.invariant.behind);
     }
 
@@ -155,39 +155,38 @@ pub group-returns-then-not-at-clause-told : goal.group-returns-then-not-at-claus
 group-returns-then-not-at-clause-told t c =
     part_wrong group _ c.args.left (sym c.if-not-at.ensures)
 
-pub group-returns-in_err-left-clause-told : goal.group-returns-in_err-left-clause-told
-group-returns-in_err-left-clause-told t c =
+pub group-returns-in_err-inner-clause-told : goal.group-returns-in_err-inner-clause-told
+group-returns-in_err-inner-clause-told t c =
     let p = err_from_is_err_and c.from_residual.result c.from_residual.ensures.1 in
-    rw (p.1, p.2) (nested_deep group _ _ (sym c.if-not-at.ensures) _ c.in_err-left.ensures)
+    rw (p.1, p.2) (nested_deep group _ _ (sym c.if-not-at.ensures) _ c.in_err-inner.ensures)
 
 pub group-returns-in_err-expr-clause-told : goal.group-returns-in_err-expr-clause-told
 group-returns-in_err-expr-clause-told t c =
     let m = c.in_ok-take.ensures.told in
     let p = err_from_is_err_and c.from_residual-in_err-expr.result c.from_residual-in_err-expr.ensures.1 in
-    rw (p.1, p.2) (nested_stop group _ _ (sym c.if-not-at.ensures) c.in_ok-left.left c.in_ok-left.ensures _ _
-    (then_stop_second c.in_ok-left.left (mark LeftParen) (expr then mark RightParen) _ m.0 _ (word_got c.in_ok-left.left (mark LeftParen) tt _ _ _ m.1) _ _
-    (then_stop c.in_ok-left.left expr (mark RightParen) _ _ _ c.in_err-expr.ensures.told)))
+    rw (p.1, p.2) (nested_stop group _ _ (sym c.if-not-at.ensures) c.in_ok-inner.inner c.in_ok-inner.ensures _ _
+    (then_stop_second c.in_ok-inner.inner (mark LeftParen) (expr then mark RightParen) _ m.0 _ (word_got c.in_ok-inner.inner (mark LeftParen) tt _ _ _ m.1) _ _
+    (then_stop c.in_ok-inner.inner expr (mark RightParen) _ _ _ c.in_err-expr.ensures.told)))
 
 pub group-returns-in_err-take-2-clause-told : goal.group-returns-in_err-take-2-clause-told
 group-returns-in_err-take-2-clause-told t c =
     let m = c.in_ok-take.ensures.told in
     let a = c.in_ok-expr.ensures.told in
     let p = err_from_is_err_and c.from_residual-in_err-take-2.result c.from_residual-in_err-take-2.ensures.1 in
-    rw (p.1, p.2) (nested_stop group _ _ (sym c.if-not-at.ensures) c.in_ok-left.left c.in_ok-left.ensures _ _
-    (then_stop_second c.in_ok-left.left (mark LeftParen) (expr then mark RightParen) _ m.0 _ (word_got c.in_ok-left.left (mark LeftParen) tt _ _ _ m.1) _ _
-    (then_stop_second c.in_ok-left.left expr (mark RightParen) _ a.0 _ a.1 _ _
-    (word_stop c.in_ok-left.left (mark RightParen) tt _ _ _ c.in_err-take-2.ensures.told))))
+    rw (p.1, p.2) (nested_stop group _ _ (sym c.if-not-at.ensures) c.in_ok-inner.inner c.in_ok-inner.ensures _ _
+    (then_stop_second c.in_ok-inner.inner (mark LeftParen) (expr then mark RightParen) _ m.0 _ (word_got c.in_ok-inner.inner (mark LeftParen) tt _ _ _ m.1) _ _
+    (then_stop_second c.in_ok-inner.inner expr (mark RightParen) _ a.0 _ a.1 _ _
+    (word_stop c.in_ok-inner.inner (mark RightParen) tt _ _ _ c.in_err-take-2.ensures.told))))
 
 pub group-returns-clause-told : goal.group-returns-clause-told
 group-returns-clause-told t c =
     let m = c.in_ok-take.ensures.told in
     let a = c.in_ok-expr.ensures.told in
-    let r = c.in_ok-take-2.ensures.told in
-    (
+    let r = c.in_ok-take-2.ensures.told in (
       nested group (both m.0 (both a.0 r.0)),
-      nested_got group _ _ (sym c.if-not-at.ensures) c.in_ok-left.left c.in_ok-left.ensures _ _
-      (then_got c.in_ok-left.left (mark LeftParen) (expr then mark RightParen) _ _ _ _ _ (word_got c.in_ok-left.left (mark LeftParen) tt _ _ _ m.1)
-      (then_got c.in_ok-left.left expr (mark RightParen) _ _ _ _ _ a.1 (word_got c.in_ok-left.left (mark RightParen) tt _ _ _ r.1))),
+      nested_got group _ _ (sym c.if-not-at.ensures) c.in_ok-inner.inner c.in_ok-inner.ensures _ _
+          (then_got c.in_ok-inner.inner (mark LeftParen) (expr then mark RightParen) _ _ _ _ _ (word_got c.in_ok-inner.inner (mark LeftParen) tt _ _ _ m.1)
+          (then_got c.in_ok-inner.inner expr (mark RightParen) _ _ _ _ _ a.1 (word_got c.in_ok-inner.inner (mark RightParen) tt _ _ _ r.1))),
       a.2,
     )
 
@@ -198,33 +197,33 @@ prefix-returns-then-not-at_prefix_sign-clause-told t c =
     (λ e h. right_stop c.args.left (part signed) primary _ (sym c.if-not-at_prefix_sign.ensures) e _ h)
     _ c.primary.ensures.told
 
-pub prefix-returns-in_err-left-clause-told : goal.prefix-returns-in_err-left-clause-told
-prefix-returns-in_err-left-clause-told t c =
+pub prefix-returns-in_err-inner-clause-told : goal.prefix-returns-in_err-inner-clause-told
+prefix-returns-in_err-inner-clause-told t c =
     let p = err_from_is_err_and c.from_residual.result c.from_residual.ensures.1 in
     rw (p.1, p.2) (left_stop c.args.left (part signed) primary _ (sym c.if-not-at_prefix_sign.ensures) _ _
-    (nested_deep signed _ _ (sym c.if-not-at_prefix_sign.ensures) _ c.in_err-left.ensures))
+    (nested_deep signed _ _ (sym c.if-not-at_prefix_sign.ensures) _ c.in_err-inner.ensures))
 
 pub prefix-returns-in_err-sign-clause-told : goal.prefix-returns-in_err-sign-clause-told
 prefix-returns-in_err-sign-clause-told t c =
     let p = err_from_is_err_and c.from_residual-in_err-sign.result c.from_residual-in_err-sign.ensures.1 in
     rw (p.1, p.2) (left_stop c.args.left (part signed) primary _ (sym c.if-not-at_prefix_sign.ensures) _ _
-    (nested_stop signed _ _ (sym c.if-not-at_prefix_sign.ensures) c.in_ok-left.left c.in_ok-left.ensures _ _
-    (then_stop c.in_ok-left.left prefix_sign prefix _ _ _ (c.in_err-sign.ensures.told c.in_ok-left.left))))
+    (nested_stop signed _ _ (sym c.if-not-at_prefix_sign.ensures) c.in_ok-inner.inner c.in_ok-inner.ensures _ _
+    (then_stop c.in_ok-inner.inner prefix_sign prefix _ _ _ (c.in_err-sign.ensures.told c.in_ok-inner.inner))))
 
 pub prefix-returns-in_err-prefix-clause-told : goal.prefix-returns-in_err-prefix-clause-told
 prefix-returns-in_err-prefix-clause-told t c =
-    let s = c.in_ok-sign.ensures.told c.in_ok-left.left in
+    let s = c.in_ok-sign.ensures.told c.in_ok-inner.inner in
     let p = err_from_is_err_and c.from_residual-in_err-prefix.result c.from_residual-in_err-prefix.ensures.1 in
     rw (p.1, p.2) (left_stop c.args.left (part signed) primary _ (sym c.if-not-at_prefix_sign.ensures) _ _
-    (nested_stop signed _ _ (sym c.if-not-at_prefix_sign.ensures) c.in_ok-left.left c.in_ok-left.ensures _ _
-    (then_stop_second c.in_ok-left.left prefix_sign prefix _ s.0 _ s.1 _ _ c.in_err-prefix.ensures.told)))
+    (nested_stop signed _ _ (sym c.if-not-at_prefix_sign.ensures) c.in_ok-inner.inner c.in_ok-inner.ensures _ _
+    (then_stop_second c.in_ok-inner.inner prefix_sign prefix _ s.0 _ s.1 _ _ c.in_err-prefix.ensures.told)))
 
 pub prefix-returns-clause-told : goal.prefix-returns-clause-told
 prefix-returns-clause-told t c =
-    let s = c.in_ok-sign.ensures.told c.in_ok-left.left in
+    let s = c.in_ok-sign.ensures.told c.in_ok-inner.inner in
     let a = c.in_ok-prefix.ensures.told in
     let before = term_lists c.args.terms.now in
-    let reads = left_got c.args.left (part signed) primary _ (sym c.if-not-at_prefix_sign.ensures) _ _ (nested_got signed _ _ (sym c.if-not-at_prefix_sign.ensures) c.in_ok-left.left c.in_ok-left.ensures _ _ (then_got c.in_ok-left.left prefix_sign prefix _ _ _ _ _ s.1 a.1)) in
+    let reads = left_got c.args.left (part signed) primary _ (sym c.if-not-at_prefix_sign.ensures) _ _ (nested_got signed _ _ (sym c.if-not-at_prefix_sign.ensures) c.in_ok-inner.inner c.in_ok-inner.ensures _ _ (then_got c.in_ok-inner.inner prefix_sign prefix _ _ _ _ _ s.1 a.1)) in
     wrote_last (read c.args.left prefix c.args.cursor.now) (λ t. prefix_rows t c.args.driven) before _ _
     (λ h. (left (nested signed (both s.0 a.0)), reads, under_is s.0 c.args.driven _ s.2 _ _ (term_lists c.prefix.new.terms) (prefix_rows a.0 c.args.driven before) _ c.form.ensures c.root-operand.ensures a.2 h))
     _ c.push.ensures

@@ -1,14 +1,9 @@
-use Rattle.std.proofs.Common.{sym, refl, ap, ◌∙◌, arith}
-use Rattle.std.proofs.lemmas.Result.{err_from_is_err_and}
-use Rattle.words.specs.declared.token.Sign.TheVariants.{Backslash, Dollar, Not, AndReduce, OrReduce, XorReduce}
-use Rattle.grammar.specs.Rules.{mark, integer, ◌then◌, either, integers, ref, prefix_sign}
-use Rattle.grammar.specs.Trees.{both, left, right}
+use Rattle.grammar.specs.Rules.{ref}
 use Rattle.grammar.specs.Drafts.{term_lists}
 use Rattle.grammar.specs.Reading.{read}
-use Rattle.cursor.proofs.Steps.{then_got, then_stop, then_stop_second, left_got, right_got, right_stop}
-use Rattle.cursor.proofs.MoreSteps.{word_got, word_stop, wrote_last, sign_taken, sign_missing}
-use Rattle.terms.specs.Expressions.{bits_rows, string_rule, string_rows, sized_rule, sized_rows, sign_of}
-use Rattle.terms.proofs.Terms.{bits_is, string_is, sized_is}
+use Rattle.cursor.proofs.MoreSteps.{wrote_last}
+use Rattle.terms.specs.Expressions.{bits_rows}
+use Rattle.terms.proofs.Terms.{bits_is}
 use Rattle.terms.proofs.expressions.bits.Goals as goal
 
 pub returns-clause-told : goal.returns-clause-told

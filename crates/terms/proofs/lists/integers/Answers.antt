@@ -3,7 +3,7 @@ use Rattle.std.proofs.lemmas.Result.{err_from_is_err_and}
 use Rattle.words.specs.declared.token.Sign.TheVariants.{Comma}
 use Rattle.grammar.specs.Rules.{mark, integer, ◌then◌, many}
 use Rattle.grammar.specs.Trees.{both}
-use Rattle.grammar.specs.Drafts.{more_listed, listed}
+use Rattle.grammar.specs.Drafts.{more_listed}
 use Rattle.cursor.proofs.Steps.{then_got, then_stop, then_stop_second, goes_start}
 use Rattle.cursor.proofs.MoreSteps.{list_turn, list_stop, list_end}
 use Rattle.terms.proofs.Commas.{one_listed, one_more_listed}

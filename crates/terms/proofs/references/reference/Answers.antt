@@ -1,12 +1,11 @@
-use Rattle.std.proofs.Common.{sym, refl, ap, ◌∙◌, arith}
+use Rattle.std.proofs.Common.{arith}
 use Rattle.std.proofs.lemmas.Result.{err_from_is_err_and}
-use Rattle.words.specs.declared.token.Sign.TheVariants.{Colon, LeftBracket, RightBracket}
-use Rattle.grammar.specs.Rules.{mark, name, integer, ◌then◌, maybe}
-use Rattle.grammar.specs.Trees.{both, none, some}
-use Rattle.cursor.proofs.Steps.{then_got, then_stop, then_stop_second, maybe_none, maybe_some, maybe_stop, starts_then}
+use Rattle.grammar.specs.Rules.{name, maybe}
+use Rattle.grammar.specs.Trees.{both}
+use Rattle.cursor.proofs.Steps.{then_got, then_stop, then_stop_second}
 use Rattle.cursor.proofs.MoreSteps.{word_got, word_stop}
-use Rattle.terms.specs.Subscripts.{subscript_rule, last_of, maybe_subscript}
-use Rattle.terms.proofs.Subscripts.{subscript_is, ref_is}
+use Rattle.terms.specs.Subscripts.{subscript_rule}
+use Rattle.terms.proofs.Subscripts.{ref_is}
 use Rattle.terms.proofs.references.reference.Goals as goal
 
 pub returns-in_err-name-clause-told : goal.returns-in_err-name-clause-told
