@@ -9,7 +9,7 @@ use Rattle.grammar.specs.Reading.{Out, got, wrong, IsWord, read_word, read}
 use Rattle.cursor.specs.declared.stop.Stop.{Stop}
 use Rattle.cursor.specs.declared.stop.Stop.TheVariants.{Unexpected, TooDeep, OutOfMemory}
 use Rattle.cursor.specs.Told.{Stopped, Wrote}
-use Rattle.cursor.proofs.Steps.{word_is, then_got, then_stop_second, left_got, right_got, right_stop, Goes, goes_turn, goes_end, goes_stop, part_got, part_stop, part_deep}
+use Rattle.cursor.proofs.Steps.{word_is, then_got, then_stop_second, left_got, left_stop, right_got, right_stop, Goes, goes_turn, goes_end, goes_stop, part_got, part_stop, part_deep}
 
 -- a single word that is taken is read, and one that is missing is where reading stops
 module _ (n : ℕ) (r : Rule) (w : IsWord r) (ws : List Token) where
@@ -24,10 +24,17 @@ pub wrote_last : {A V D P : Type 0} (o : Out A) (f : A → D → D) (before : D)
 wrote_last o f before rest after g (Ok v) h = g h
 wrote_last o f before rest after g (Err e) h = rw h tt
 
--- a reader whose last call is another reader
-pub wrote_as : {A B V D : Type 0} (o : Out A) (q : Out B) (f : A → D → D) (g : B → D → D) (before : D) (rest : List Token) (after : D) → ((t : A) → o ≡ got t rest → (u : B) × (q ≡ got u rest) × (g u before ≡ f t before)) → ((e : Stop) → Stopped o e rest → Stopped q e rest) → (r : Result V Stop) → Wrote o f before r rest after → Wrote q g before r rest after
-wrote_as o q f g before rest after goes stops (Ok v) (t, e, x) = let u = goes t e in (u.0, u.1, x ∙ sym u.2)
-wrote_as o q f g before rest after goes stops (Err e) h = stops e h
+-- a reader of a | b that calls the reader of a, or that of b
+wrote_as : {A B V D : Type 0} (o : Out A) (q : Out B) (wrap : A → B) (g : B → D → D) (before : D) (rest : List Token) (after : D) → ((t : A) → o ≡ got t rest → q ≡ got (wrap t) rest) → ((e : Stop) → Stopped o e rest → Stopped q e rest) → (r : Result V Stop) → Wrote o (λ t. g (wrap t)) before r rest after → Wrote q g before r rest after
+wrote_as o q wrap g before rest after goes stops (Ok v) (t, e, x) = (wrap t, goes t e, x)
+wrote_as o q wrap g before rest after goes stops (Err e) h = stops e h
+
+module _ {V D : Type 0} (n : ℕ) (a b : Rule) (g : Tree (either a b) → D → D) (ws : List Token) (before : D) (r : Result V Stop) (rest : List Token) (after : D) where
+  pub wrote_left : starts a (sort ws) ≡ true → Wrote (read n a ws) (λ t. g (left t)) before r rest after → Wrote (read n (either a b) ws) g before r rest after
+  wrote_left s = wrote_as (read n a ws) (read n (either a b) ws) left g before rest after (λ t e. left_got n a b ws s t rest e) (λ e h. left_stop n a b ws s e rest h) r
+
+  pub wrote_right : starts a (sort ws) ≡ false → Wrote (read n b ws) (λ t. g (right t)) before r rest after → Wrote (read n (either a b) ws) g before r rest after
+  wrote_right s = wrote_as (read n b ws) (read n (either a b) ws) right g before rest after (λ t e. right_got n a b ws s t rest e) (λ e h. right_stop n a b ws s e rest h) r
 
 -- a sign is taken exactly where it is the next word; where it is not, nothing is passed
 pub sign_taken : (s : Sign) (ws : List Token) (m : Tree (mark s)) (us : List Token) → read_word (mark s) ws ≡ got m us → (starts (mark s) (sort ws) ≡ true) × (length us < length ws)

@@ -1,18 +1,17 @@
 use Rattle.std.proofs.Common.{refl, sym, ap, ◌∙◌, arith}
 use Rattle.std.proofs.lemmas.Result.{err_from_is_err_and}
-use Rattle.words.specs.declared.token.Sign.TheVariants.{Comma, LeftParen, RightParen, And, Or, Xor, Backslash, Dollar}
+use Rattle.words.specs.declared.token.Sign.TheVariants.{Comma, LeftParen, RightParen, And, Or, Xor}
 use Rattle.grammar.specs.declared.draft.Gate.TheVariants.{And as AndGate, Or as OrGate, Xor as XorGate}
 use Rattle.grammar.specs.declared.draft.Form.TheVariants.{Comma as CommaForm, Join}
-use Rattle.grammar.specs.Rules.{group, signed, mark, name, integer, ◌then◌, maybe, many, either, part, integers, ref, primary, prefix_sign, prefix, and, xor, or, expr}
-use Rattle.grammar.specs.Trees.{both, left, right, nested}
+use Rattle.grammar.specs.Rules.{group, signed, mark, ◌then◌, many, part, primary, prefix_sign, prefix, and, xor, or, expr}
+use Rattle.grammar.specs.Trees.{both, left, nested}
 use Rattle.grammar.specs.Reading.{read}
-use Rattle.grammar.specs.Drafts.{term_lists, primary_rows, prefix_rows, and_rows, xor_rows, or_rows, more_ors, more_xors, more_ands, more_prefixes}
-use Rattle.cursor.proofs.Steps.{then_got, then_stop, then_stop_second, left_got, left_stop, right_got, right_stop, goes_start, starts_then, part_wrong}
-use Rattle.cursor.proofs.MoreSteps.{word_got, word_stop, wrote_last, wrote_as, list_turn, list_stop, list_end, nested_got, nested_stop, nested_deep}
-use Rattle.terms.specs.Subscripts.{subscript_rule}
-use Rattle.terms.specs.Expressions.{bits_rows, string_rule, string_rows, sized_rule, sized_rows, group_rows}
+use Rattle.grammar.specs.Drafts.{term_lists, prefix_rows, and_rows, xor_rows, or_rows, more_ors, more_xors, more_ands, more_prefixes}
+use Rattle.cursor.proofs.Steps.{then_got, then_stop, then_stop_second, left_got, left_stop, goes_start, part_wrong}
+use Rattle.cursor.proofs.MoreSteps.{word_got, word_stop, wrote_last, wrote_right, list_turn, list_stop, list_end, nested_got, nested_stop, nested_deep}
 use Rattle.terms.proofs.Terms.{joined_is, under_is}
 use Rattle.terms.proofs.Levels.{put_or, put_or_first, put_xor, put_xor_first, put_and, put_and_first, put_prefix, put_prefix_first}
+use Rattle.terms.proofs.Primaries.{wrote_bits, wrote_string, wrote_sized, wrote_group}
 use Rattle.terms.proofs.expressions.+expression.Goals as goal
 
 pub expr-returns-in_err-or-clause-told : goal.expr-returns-in_err-or-clause-told
@@ -192,10 +191,7 @@ group-returns-clause-told t c =
 
 pub prefix-returns-then-not-at_prefix_sign-clause-told : goal.prefix-returns-then-not-at_prefix_sign-clause-told
 prefix-returns-then-not-at_prefix_sign-clause-told t c =
-    wrote_as (read c.args.left primary c.args.cursor.now) (read c.args.left prefix c.args.cursor.now) (λ t. primary_rows t c.args.driven) (λ t. prefix_rows t c.args.driven) (term_lists c.args.terms.now) _ _
-    (λ a e. (right a, right_got c.args.left (part signed) primary _ (sym c.if-not-at_prefix_sign.ensures) a _ e, refl))
-    (λ e h. right_stop c.args.left (part signed) primary _ (sym c.if-not-at_prefix_sign.ensures) e _ h)
-    _ c.primary.ensures.told
+    wrote_right c.args.left (part signed) primary (λ t. prefix_rows t c.args.driven) _ (term_lists c.args.terms.now) _ _ _ (sym c.if-not-at_prefix_sign.ensures) c.primary.ensures.told
 
 pub prefix-returns-in_err-inner-clause-told : goal.prefix-returns-in_err-inner-clause-told
 prefix-returns-in_err-inner-clause-told t c =
@@ -230,28 +226,16 @@ prefix-returns-clause-told t c =
 
 pub primary-returns-then-at-clause-told : goal.primary-returns-then-at-clause-told
 primary-returns-then-at-clause-told t c =
-    wrote_as (read c.args.left ref c.args.cursor.now) (read c.args.left primary c.args.cursor.now) (λ t. bits_rows t c.args.driven) (λ t. primary_rows t c.args.driven) (term_lists c.args.terms.now) _ _
-    (λ a e. (left a, left_got c.args.left ref (either string_rule (either sized_rule (part group))) _ (starts_then name (maybe subscript_rule) _ refl ∙ sym c.if-at.ensures) a _ e, refl))
-    (λ e h. left_stop c.args.left ref (either string_rule (either sized_rule (part group))) _ (starts_then name (maybe subscript_rule) _ refl ∙ sym c.if-at.ensures) e _ h)
-    _ (c.bits.ensures.told c.args.left)
+    wrote_bits c.args.left c.args.driven _ (term_lists c.args.terms.now) _ _ _ c.if-at.ensures (c.bits.ensures.told c.args.left)
 
 pub primary-returns-then-at-2-clause-told : goal.primary-returns-then-at-2-clause-told
 primary-returns-then-at-2-clause-told t c =
-    wrote_as (read c.args.left string_rule c.args.cursor.now) (read c.args.left primary c.args.cursor.now) (λ t. string_rows t c.args.driven) (λ t. primary_rows t c.args.driven) (term_lists c.args.terms.now) _ _
-    (λ a e. (right (left a), right_got c.args.left ref (either string_rule (either sized_rule (part group))) _ (starts_then name (maybe subscript_rule) _ refl ∙ sym c.if-at.ensures) _ _ (left_got c.args.left string_rule (either sized_rule (part group)) _ (starts_then (mark Backslash) (integers then mark Backslash) _ refl ∙ sym c.if-at-2.ensures) a _ e), refl))
-    (λ e h. right_stop c.args.left ref (either string_rule (either sized_rule (part group))) _ (starts_then name (maybe subscript_rule) _ refl ∙ sym c.if-at.ensures) e _ (left_stop c.args.left string_rule (either sized_rule (part group)) _ (starts_then (mark Backslash) (integers then mark Backslash) _ refl ∙ sym c.if-at-2.ensures) e _ h))
-    _ (c.bit_string.ensures.told c.args.left)
+    wrote_string c.args.left c.args.driven _ (term_lists c.args.terms.now) _ _ _ c.if-at.ensures c.if-at-2.ensures (c.bit_string.ensures.told c.args.left)
 
 pub primary-returns-then-at-3-clause-told : goal.primary-returns-then-at-3-clause-told
 primary-returns-then-at-3-clause-told t c =
-    wrote_as (read c.args.left sized_rule c.args.cursor.now) (read c.args.left primary c.args.cursor.now) (λ t. sized_rows t c.args.driven) (λ t. primary_rows t c.args.driven) (term_lists c.args.terms.now) _ _
-    (λ a e. (right (right (left a)), right_got c.args.left ref (either string_rule (either sized_rule (part group))) _ (starts_then name (maybe subscript_rule) _ refl ∙ sym c.if-at.ensures) _ _ (right_got c.args.left string_rule (either sized_rule (part group)) _ (starts_then (mark Backslash) (integers then mark Backslash) _ refl ∙ sym c.if-at-2.ensures) _ _ (left_got c.args.left sized_rule (part group) _ (starts_then integer (mark Dollar then integer) _ refl ∙ sym c.if-at-3.ensures) a _ e)), refl))
-    (λ e h. right_stop c.args.left ref (either string_rule (either sized_rule (part group))) _ (starts_then name (maybe subscript_rule) _ refl ∙ sym c.if-at.ensures) e _ (right_stop c.args.left string_rule (either sized_rule (part group)) _ (starts_then (mark Backslash) (integers then mark Backslash) _ refl ∙ sym c.if-at-2.ensures) e _ (left_stop c.args.left sized_rule (part group) _ (starts_then integer (mark Dollar then integer) _ refl ∙ sym c.if-at-3.ensures) e _ h)))
-    _ (c.sized.ensures.told c.args.left)
+    wrote_sized c.args.left c.args.driven _ (term_lists c.args.terms.now) _ _ _ c.if-at.ensures c.if-at-2.ensures c.if-at-3.ensures (c.sized.ensures.told c.args.left)
 
 pub primary-returns-clause-told : goal.primary-returns-clause-told
 primary-returns-clause-told t c =
-    wrote_as (read c.args.left (part group) c.args.cursor.now) (read c.args.left primary c.args.cursor.now) (λ t. group_rows t c.args.driven) (λ t. primary_rows t c.args.driven) (term_lists c.args.terms.now) _ _
-    (λ a e. (right (right (right a)), right_got c.args.left ref (either string_rule (either sized_rule (part group))) _ (starts_then name (maybe subscript_rule) _ refl ∙ sym c.if-at.ensures) _ _ (right_got c.args.left string_rule (either sized_rule (part group)) _ (starts_then (mark Backslash) (integers then mark Backslash) _ refl ∙ sym c.if-at-2.ensures) _ _ (right_got c.args.left sized_rule (part group) _ (starts_then integer (mark Dollar then integer) _ refl ∙ sym c.if-at-3.ensures) _ _ (e))), refl))
-    (λ e h. right_stop c.args.left ref (either string_rule (either sized_rule (part group))) _ (starts_then name (maybe subscript_rule) _ refl ∙ sym c.if-at.ensures) e _ (right_stop c.args.left string_rule (either sized_rule (part group)) _ (starts_then (mark Backslash) (integers then mark Backslash) _ refl ∙ sym c.if-at-2.ensures) e _ (right_stop c.args.left sized_rule (part group) _ (starts_then integer (mark Dollar then integer) _ refl ∙ sym c.if-at-3.ensures) e _ (h))))
-    _ c.group.ensures.told
+    wrote_group c.args.left c.args.driven _ (term_lists c.args.terms.now) _ _ _ c.if-at.ensures c.if-at-2.ensures c.if-at-3.ensures c.group.ensures.told
