@@ -9,7 +9,7 @@ use Rattle.grammar.specs.declared.draft.Form.{Form}
 use Rattle.grammar.specs.declared.draft.Gate.TheVariants.{And, Or, Xor}
 use Rattle.grammar.specs.Rules.{mark, integer, ref, integers, prefix_sign}
 use Rattle.grammar.specs.Trees.{Tree, mark_at, both, left, right}
-use Rattle.grammar.specs.Drafts.{TermLists, number_of, ref_of, listed, with_node, with_digits, node_at, root, joined, under}
+use Rattle.grammar.specs.Drafts.{TermLists, number_of, ref_of, listed, with_node, with_digits, node_at, root, under}
 use Rattle.cursor.specs.Told.{mark_place}
 use Rattle.terms.specs.Expressions.{bits_rows, string_rows, sized_rows, sign_of, form_of}
 use Rattle.terms.specs.declared.expressions.PrefixSign.{PrefixSign}
@@ -34,9 +34,6 @@ or_reduce_is (mark_at q) p e = rw e refl
 
 pub xor_reduce_is : (m : Tree (mark XorReduce)) (p : ℕ) → p ≡ mark_place m → record { place = p; gate = Some Xor } ≡ sign_of (right (right (right m)))
 xor_reduce_is (mark_at q) p e = rw e refl
-
-pub joined_is : (form : ℕ → ℕ → Form) (k : Option ℕ) (p q first second : ℕ) (before mid rows after : TermLists) → p ≡ q → first ≡ root before → second ≡ root mid → mid ≡ rows → after ≡ with_node mid (node_at p k (form first second)) → after ≡ joined q k form before rows
-joined_is form k p q first second before mid rows after e f s m h = rw (h, f, s, e, m) refl
 
 pub under_is : (s : Tree prefix_sign) (k : Option ℕ) (x : PrefixSign) → x ≡ sign_of s → (form : Form) (operand : ℕ) (mid rows after : TermLists) → form ≡ form_of x operand → operand ≡ root mid → mid ≡ rows → after ≡ with_node mid (node_at x.place k form) → after ≡ under s k rows
 under_is (left (mark_at p)) k x e form operand mid rows after f o m h = rw (h, f, o, m, e) refl

@@ -15,7 +15,7 @@ use cursor::{AnyInteger, AnyName, Cursor, Stop};
 use grammar::{Form, Gate, Node, Terms};
 use words::Sign;
 
-/// How deep expressions may nest.
+// How deep expressions may nest.
 const DEEPEST: u8 = 16;
 
 /// Reads an expression: its rows come behind those that stand already, that of its last operator at the end. `driven` is
@@ -180,7 +180,7 @@ fn group(
     Ok(())
 }
 
-// How many nestings may be opened within one more.
+// Opens one nesting more, and answers how many may still be opened within it.
 fn nested(left: u8) -> Result<u8, Stop>
     ensures { MatchResult result (λ inner. left ≡ inner + 1) (λ e. (e ≡ TooDeep) × (left ≡ 0)) }
 {
@@ -195,7 +195,7 @@ struct PrefixSign {
 }
 
 impl PrefixSign {
-    // The form of its node.
+    // The form of its node, over that operand.
     fn form(self, operand: usize) -> Form
         ensures { result ≡ form_of self operand }
     {

@@ -22,6 +22,7 @@ pub fn integers(cursor: &mut Cursor<'_>, list: &mut Vec<Listed>) -> Result<(), S
 }
 
 // Reads one integer of a list. `comma` is the place of the comma before it.
+#[tactic(auto, using(cursor::proofs::Steps::word_is))]
 fn listed_integer(
     cursor: &mut Cursor<'_>,
     comma: Option<usize>,

@@ -1,16 +1,14 @@
-use Rattle.std.proofs.Common.{refl, sym, ap, ◌∙◌, arith}
+use Rattle.std.proofs.Common.{sym, arith}
 use Rattle.std.proofs.lemmas.Result.{err_from_is_err_and}
 use Rattle.words.specs.declared.token.Sign.TheVariants.{Comma, LeftParen, RightParen, And, Or, Xor}
-use Rattle.grammar.specs.declared.draft.Gate.TheVariants.{And as AndGate, Or as OrGate, Xor as XorGate}
-use Rattle.grammar.specs.declared.draft.Form.TheVariants.{Comma as CommaForm, Join}
 use Rattle.grammar.specs.Rules.{group, signed, mark, ◌then◌, many, part, primary, prefix_sign, prefix, and, xor, or, expr}
 use Rattle.grammar.specs.Trees.{both, left, nested}
 use Rattle.grammar.specs.Reading.{read}
-use Rattle.grammar.specs.Drafts.{term_lists, prefix_rows, and_rows, xor_rows, or_rows, more_ors, more_xors, more_ands, more_prefixes}
-use Rattle.cursor.proofs.Steps.{then_got, then_stop, then_stop_second, left_got, left_stop, goes_start, part_wrong}
-use Rattle.cursor.proofs.MoreSteps.{word_got, word_stop, wrote_last, wrote_right, list_turn, list_stop, list_end, nested_got, nested_stop, nested_deep}
-use Rattle.terms.proofs.Terms.{joined_is, under_is}
-use Rattle.terms.proofs.Levels.{put_or, put_or_first, put_xor, put_xor_first, put_and, put_and_first, put_prefix, put_prefix_first}
+use Rattle.grammar.specs.Drafts.{term_lists, prefix_rows}
+use Rattle.cursor.proofs.Steps.{then_got, then_stop, then_stop_second, left_got, left_stop, part_wrong}
+use Rattle.cursor.proofs.MoreSteps.{word_got, word_stop, wrote_last, wrote_right, nested_got, nested_stop, nested_deep}
+use Rattle.terms.proofs.Terms.{under_is}
+use Rattle.terms.proofs.Levels.{commas, ors, xors, ands, along_start, along_turn, along_stop, along_end}
 use Rattle.terms.proofs.Primaries.{wrote_bits, wrote_string, wrote_sized, wrote_group}
 use Rattle.terms.proofs.expressions.+expression.Goals as goal
 
@@ -21,32 +19,26 @@ expr-returns-in_err-or-clause-told t c =
 
 pub expr-loop-place-init : goal.expr-loop-place-init
 expr-loop-place-init t c =
-    record { goes = goes_start c.args.left (mark Comma then or) (λ t. more_ors t c.args.driven) (put_or c.args.driven) _ (term_lists c.or.new.terms); behind = omega arith }
+    record { goes = along_start commas c.args.left c.args.driven _ (term_lists c.or.new.terms); behind = omega arith }
 
 pub expr-returns-in_err-or-2-clause-told : goal.expr-returns-in_err-or-2-clause-told
 expr-returns-in_err-or-2-clause-told t c =
-    let first = c.in_ok-or.ensures.told in
-    let m = c.in-Ok.ensures.told in
     let p = err_from_is_err_and c.from_residual-in_err-or-2.result c.from_residual-in_err-or-2.ensures.1 in
-    rw (p.1, p.2) (then_stop_second c.args.left or (many (mark Comma then or)) _ first.0 _ first.1 _ _
-    (list_stop c.args.left Comma or (λ t. more_ors t c.args.driven) (put_or c.args.driven) _ (term_lists c.or.new.terms) _ (term_lists c.loop-place.terms) c.loop-place.invariant.goes m.0 _ m.1 _ _ c.in_err-or-2.ensures.told))
+    rw (p.1, p.2) (along_stop commas c.args.left c.args.driven _ _ (term_lists c.or.new.terms) (term_lists c.loop-place.terms) c.loop-place.invariant.goes _ (term_lists c.args.terms.now) c.in_ok-or.ensures.told _ _ c.in-Ok.ensures.told _ _ c.in_err-or-2.ensures.told)
 
 pub expr-loop-place-preserved : goal.expr-loop-place-preserved
 expr-loop-place-preserved t c =
     let m = c.in-Ok.ensures in
     let a = c.in_ok-or-2.ensures in
-    let before = term_lists c.loop-place.terms in
     record {
-      goes = list_turn c.args.left Comma or (λ t. more_ors t c.args.driven) (put_or c.args.driven) _ (term_lists c.or.new.terms) _ (term_lists c.loop-place.terms) c.loop-place.invariant.goes m.told.0 _ m.told.1 (put_or_first c.args.driven) a.told.0 _ a.told.1 a.forward _
-          (joined_is CommaForm c.args.driven _ _ _ _ before (term_lists c.or-in-Ok.new.terms) (or_rows a.told.0 c.args.driven before) _ m.told.2 c.root-first.ensures c.root-second.ensures a.told.2 c.in_ok-push.ensures);
+      goes = along_turn commas c.args.left c.args.driven _ _ (term_lists c.or.new.terms) (term_lists c.loop-place.terms) c.loop-place.invariant.goes _ _ m.told _ (term_lists c.or-in-Ok.new.terms) a.told a.forward _ _ c.root-first.ensures c.root-second.ensures (term_lists c.push.new.terms) c.in_ok-push.ensures;
       behind = omega (arith, m.forward, a.forward, c.loop-place.invariant.behind);
     }
 
 pub expr-returns-clause-told : goal.expr-returns-clause-told
 expr-returns-clause-told t c =
-    let first = c.in_ok-or.ensures.told in
-    let rest = list_end c.args.left Comma or (λ t. more_ors t c.args.driven) (put_or c.args.driven) _ (term_lists c.or.new.terms) _ (term_lists c.loop-place.terms) c.loop-place.invariant.goes (λ d. refl) _ c.in_default.ensures.stops _ c.in_default.ensures.told in
-    (both first.0 rest.0, then_got c.args.left or (many (mark Comma then or)) _ _ _ _ _ first.1 rest.1, rest.2 ∙ ap (more_ors rest.0 c.args.driven) first.2)
+    let x = along_end commas c.args.left c.args.driven _ _ (term_lists c.or.new.terms) (term_lists c.loop-place.terms) c.loop-place.invariant.goes _ (term_lists c.args.terms.now) c.in_ok-or.ensures.told _ c.in_default.ensures.stops _ c.in_default.ensures.told in
+    (both x.0 x.1, x.2, x.3)
 
 pub or-returns-in_err-xor-clause-told : goal.or-returns-in_err-xor-clause-told
 or-returns-in_err-xor-clause-told t c =
@@ -55,32 +47,26 @@ or-returns-in_err-xor-clause-told t c =
 
 pub or-loop-place-init : goal.or-loop-place-init
 or-loop-place-init t c =
-    record { goes = goes_start c.args.left (mark Or then xor) (λ t. more_xors t c.args.driven) (put_xor c.args.driven) _ (term_lists c.xor.new.terms); behind = omega arith }
+    record { goes = along_start ors c.args.left c.args.driven _ (term_lists c.xor.new.terms); behind = omega arith }
 
 pub or-returns-in_err-xor-2-clause-told : goal.or-returns-in_err-xor-2-clause-told
 or-returns-in_err-xor-2-clause-told t c =
-    let first = c.in_ok-xor.ensures.told in
-    let m = c.in-Ok.ensures.told in
     let p = err_from_is_err_and c.from_residual-in_err-xor-2.result c.from_residual-in_err-xor-2.ensures.1 in
-    rw (p.1, p.2) (then_stop_second c.args.left xor (many (mark Or then xor)) _ first.0 _ first.1 _ _
-    (list_stop c.args.left Or xor (λ t. more_xors t c.args.driven) (put_xor c.args.driven) _ (term_lists c.xor.new.terms) _ (term_lists c.loop-place.terms) c.loop-place.invariant.goes m.0 _ m.1 _ _ c.in_err-xor-2.ensures.told))
+    rw (p.1, p.2) (along_stop ors c.args.left c.args.driven _ _ (term_lists c.xor.new.terms) (term_lists c.loop-place.terms) c.loop-place.invariant.goes _ (term_lists c.args.terms.now) c.in_ok-xor.ensures.told _ _ c.in-Ok.ensures.told _ _ c.in_err-xor-2.ensures.told)
 
 pub or-loop-place-preserved : goal.or-loop-place-preserved
 or-loop-place-preserved t c =
     let m = c.in-Ok.ensures in
     let a = c.in_ok-xor-2.ensures in
-    let before = term_lists c.loop-place.terms in
     record {
-      goes = list_turn c.args.left Or xor (λ t. more_xors t c.args.driven) (put_xor c.args.driven) _ (term_lists c.xor.new.terms) _ (term_lists c.loop-place.terms) c.loop-place.invariant.goes m.told.0 _ m.told.1 (put_xor_first c.args.driven) a.told.0 _ a.told.1 a.forward _
-          (joined_is (Join OrGate) c.args.driven _ _ _ _ before (term_lists c.xor-in-Ok.new.terms) (xor_rows a.told.0 c.args.driven before) _ m.told.2 c.root-first.ensures c.root-second.ensures a.told.2 c.in_ok-push.ensures);
+      goes = along_turn ors c.args.left c.args.driven _ _ (term_lists c.xor.new.terms) (term_lists c.loop-place.terms) c.loop-place.invariant.goes _ _ m.told _ (term_lists c.xor-in-Ok.new.terms) a.told a.forward _ _ c.root-first.ensures c.root-second.ensures (term_lists c.push.new.terms) c.in_ok-push.ensures;
       behind = omega (arith, m.forward, a.forward, c.loop-place.invariant.behind);
     }
 
 pub or-returns-clause-told : goal.or-returns-clause-told
 or-returns-clause-told t c =
-    let first = c.in_ok-xor.ensures.told in
-    let rest = list_end c.args.left Or xor (λ t. more_xors t c.args.driven) (put_xor c.args.driven) _ (term_lists c.xor.new.terms) _ (term_lists c.loop-place.terms) c.loop-place.invariant.goes (λ d. refl) _ c.in_default.ensures.stops _ c.in_default.ensures.told in
-    (both first.0 rest.0, then_got c.args.left xor (many (mark Or then xor)) _ _ _ _ _ first.1 rest.1, rest.2 ∙ ap (more_xors rest.0 c.args.driven) first.2)
+    let x = along_end ors c.args.left c.args.driven _ _ (term_lists c.xor.new.terms) (term_lists c.loop-place.terms) c.loop-place.invariant.goes _ (term_lists c.args.terms.now) c.in_ok-xor.ensures.told _ c.in_default.ensures.stops _ c.in_default.ensures.told in
+    (both x.0 x.1, x.2, x.3)
 
 pub xor-returns-in_err-and-clause-told : goal.xor-returns-in_err-and-clause-told
 xor-returns-in_err-and-clause-told t c =
@@ -89,32 +75,26 @@ xor-returns-in_err-and-clause-told t c =
 
 pub xor-loop-place-init : goal.xor-loop-place-init
 xor-loop-place-init t c =
-    record { goes = goes_start c.args.left (mark Xor then and) (λ t. more_ands t c.args.driven) (put_and c.args.driven) _ (term_lists c.and.new.terms); behind = omega arith }
+    record { goes = along_start xors c.args.left c.args.driven _ (term_lists c.and.new.terms); behind = omega arith }
 
 pub xor-returns-in_err-and-2-clause-told : goal.xor-returns-in_err-and-2-clause-told
 xor-returns-in_err-and-2-clause-told t c =
-    let first = c.in_ok-and.ensures.told in
-    let m = c.in-Ok.ensures.told in
     let p = err_from_is_err_and c.from_residual-in_err-and-2.result c.from_residual-in_err-and-2.ensures.1 in
-    rw (p.1, p.2) (then_stop_second c.args.left and (many (mark Xor then and)) _ first.0 _ first.1 _ _
-    (list_stop c.args.left Xor and (λ t. more_ands t c.args.driven) (put_and c.args.driven) _ (term_lists c.and.new.terms) _ (term_lists c.loop-place.terms) c.loop-place.invariant.goes m.0 _ m.1 _ _ c.in_err-and-2.ensures.told))
+    rw (p.1, p.2) (along_stop xors c.args.left c.args.driven _ _ (term_lists c.and.new.terms) (term_lists c.loop-place.terms) c.loop-place.invariant.goes _ (term_lists c.args.terms.now) c.in_ok-and.ensures.told _ _ c.in-Ok.ensures.told _ _ c.in_err-and-2.ensures.told)
 
 pub xor-loop-place-preserved : goal.xor-loop-place-preserved
 xor-loop-place-preserved t c =
     let m = c.in-Ok.ensures in
     let a = c.in_ok-and-2.ensures in
-    let before = term_lists c.loop-place.terms in
     record {
-      goes = list_turn c.args.left Xor and (λ t. more_ands t c.args.driven) (put_and c.args.driven) _ (term_lists c.and.new.terms) _ (term_lists c.loop-place.terms) c.loop-place.invariant.goes m.told.0 _ m.told.1 (put_and_first c.args.driven) a.told.0 _ a.told.1 a.forward _
-          (joined_is (Join XorGate) c.args.driven _ _ _ _ before (term_lists c.and-in-Ok.new.terms) (and_rows a.told.0 c.args.driven before) _ m.told.2 c.root-first.ensures c.root-second.ensures a.told.2 c.in_ok-push.ensures);
+      goes = along_turn xors c.args.left c.args.driven _ _ (term_lists c.and.new.terms) (term_lists c.loop-place.terms) c.loop-place.invariant.goes _ _ m.told _ (term_lists c.and-in-Ok.new.terms) a.told a.forward _ _ c.root-first.ensures c.root-second.ensures (term_lists c.push.new.terms) c.in_ok-push.ensures;
       behind = omega (arith, m.forward, a.forward, c.loop-place.invariant.behind);
     }
 
 pub xor-returns-clause-told : goal.xor-returns-clause-told
 xor-returns-clause-told t c =
-    let first = c.in_ok-and.ensures.told in
-    let rest = list_end c.args.left Xor and (λ t. more_ands t c.args.driven) (put_and c.args.driven) _ (term_lists c.and.new.terms) _ (term_lists c.loop-place.terms) c.loop-place.invariant.goes (λ d. refl) _ c.in_default.ensures.stops _ c.in_default.ensures.told in
-    (both first.0 rest.0, then_got c.args.left and (many (mark Xor then and)) _ _ _ _ _ first.1 rest.1, rest.2 ∙ ap (more_ands rest.0 c.args.driven) first.2)
+    let x = along_end xors c.args.left c.args.driven _ _ (term_lists c.and.new.terms) (term_lists c.loop-place.terms) c.loop-place.invariant.goes _ (term_lists c.args.terms.now) c.in_ok-and.ensures.told _ c.in_default.ensures.stops _ c.in_default.ensures.told in
+    (both x.0 x.1, x.2, x.3)
 
 pub and-returns-in_err-prefix-clause-told : goal.and-returns-in_err-prefix-clause-told
 and-returns-in_err-prefix-clause-told t c =
@@ -123,32 +103,26 @@ and-returns-in_err-prefix-clause-told t c =
 
 pub and-loop-place-init : goal.and-loop-place-init
 and-loop-place-init t c =
-    record { goes = goes_start c.args.left (mark And then prefix) (λ t. more_prefixes t c.args.driven) (put_prefix c.args.driven) _ (term_lists c.prefix.new.terms); behind = omega arith }
+    record { goes = along_start ands c.args.left c.args.driven _ (term_lists c.prefix.new.terms); behind = omega arith }
 
 pub and-returns-in_err-prefix-2-clause-told : goal.and-returns-in_err-prefix-2-clause-told
 and-returns-in_err-prefix-2-clause-told t c =
-    let first = c.in_ok-prefix.ensures.told in
-    let m = c.in-Ok.ensures.told in
     let p = err_from_is_err_and c.from_residual-in_err-prefix-2.result c.from_residual-in_err-prefix-2.ensures.1 in
-    rw (p.1, p.2) (then_stop_second c.args.left prefix (many (mark And then prefix)) _ first.0 _ first.1 _ _
-    (list_stop c.args.left And prefix (λ t. more_prefixes t c.args.driven) (put_prefix c.args.driven) _ (term_lists c.prefix.new.terms) _ (term_lists c.loop-place.terms) c.loop-place.invariant.goes m.0 _ m.1 _ _ c.in_err-prefix-2.ensures.told))
+    rw (p.1, p.2) (along_stop ands c.args.left c.args.driven _ _ (term_lists c.prefix.new.terms) (term_lists c.loop-place.terms) c.loop-place.invariant.goes _ (term_lists c.args.terms.now) c.in_ok-prefix.ensures.told _ _ c.in-Ok.ensures.told _ _ c.in_err-prefix-2.ensures.told)
 
 pub and-loop-place-preserved : goal.and-loop-place-preserved
 and-loop-place-preserved t c =
     let m = c.in-Ok.ensures in
     let a = c.in_ok-prefix-2.ensures in
-    let before = term_lists c.loop-place.terms in
     record {
-      goes = list_turn c.args.left And prefix (λ t. more_prefixes t c.args.driven) (put_prefix c.args.driven) _ (term_lists c.prefix.new.terms) _ (term_lists c.loop-place.terms) c.loop-place.invariant.goes m.told.0 _ m.told.1 (put_prefix_first c.args.driven) a.told.0 _ a.told.1 a.forward _
-          (joined_is (Join AndGate) c.args.driven _ _ _ _ before (term_lists c.prefix-in-Ok.new.terms) (prefix_rows a.told.0 c.args.driven before) _ m.told.2 c.root-first.ensures c.root-second.ensures a.told.2 c.in_ok-push.ensures);
+      goes = along_turn ands c.args.left c.args.driven _ _ (term_lists c.prefix.new.terms) (term_lists c.loop-place.terms) c.loop-place.invariant.goes _ _ m.told _ (term_lists c.prefix-in-Ok.new.terms) a.told a.forward _ _ c.root-first.ensures c.root-second.ensures (term_lists c.push.new.terms) c.in_ok-push.ensures;
       behind = omega (arith, m.forward, a.forward, c.loop-place.invariant.behind);
     }
 
 pub and-returns-clause-told : goal.and-returns-clause-told
 and-returns-clause-told t c =
-    let first = c.in_ok-prefix.ensures.told in
-    let rest = list_end c.args.left And prefix (λ t. more_prefixes t c.args.driven) (put_prefix c.args.driven) _ (term_lists c.prefix.new.terms) _ (term_lists c.loop-place.terms) c.loop-place.invariant.goes (λ d. refl) _ c.in_default.ensures.stops _ c.in_default.ensures.told in
-    (both first.0 rest.0, then_got c.args.left prefix (many (mark And then prefix)) _ _ _ _ _ first.1 rest.1, rest.2 ∙ ap (more_prefixes rest.0 c.args.driven) first.2)
+    let x = along_end ands c.args.left c.args.driven _ _ (term_lists c.prefix.new.terms) (term_lists c.loop-place.terms) c.loop-place.invariant.goes _ (term_lists c.args.terms.now) c.in_ok-prefix.ensures.told _ c.in_default.ensures.stops _ c.in_default.ensures.told in
+    (both x.0 x.1, x.2, x.3)
 
 pub group-returns-then-not-at-clause-told : goal.group-returns-then-not-at-clause-told
 group-returns-then-not-at-clause-told t c =

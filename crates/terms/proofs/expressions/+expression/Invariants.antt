@@ -1,9 +1,6 @@
 use Rattle.std.proofs.Common.{◌+◌, ◌*◌, ◌≤◌, length}
-use Rattle.words.specs.declared.token.Sign.TheVariants.{Comma, And, Or, Xor}
-use Rattle.grammar.specs.Rules.{mark, ◌then◌, prefix, and, xor, or}
-use Rattle.grammar.specs.Drafts.{term_lists, more_ors, more_xors, more_ands, more_prefixes}
-use Rattle.cursor.proofs.Steps.{Goes}
-use Rattle.terms.proofs.Levels.{put_or, put_xor, put_and, put_prefix}
+use Rattle.grammar.specs.Drafts.{term_lists}
+use Rattle.terms.proofs.Levels.{Along, commas, ors, xors, ands}
 use Rattle.terms.proofs.expressions.+expression.Given as goal
 
 abbrev pub decreases-group : goal.decreases-group
@@ -29,7 +26,7 @@ decreases-expr l = 8 * l.left + 6
 
 abbrev pub invariant-expr-loop-place : goal.invariant-expr-loop-place
 invariant-expr-loop-place l = record {
-  goes : Goes l.left (mark Comma then or) (λ t. more_ors t l.driven) (put_or l.driven) l.initial.cursor (term_lists l.initial.terms) l.cursor (term_lists l.terms);
+  goes : Along commas l.left l.driven l.initial.cursor (term_lists l.initial.terms) l.cursor (term_lists l.terms);
   behind : length l.cursor ≤ length l.initial.cursor;
 }
 
@@ -38,7 +35,7 @@ decreases-expr-loop-place l = length l.cursor
 
 abbrev pub invariant-or-loop-place : goal.invariant-or-loop-place
 invariant-or-loop-place l = record {
-  goes : Goes l.left (mark Or then xor) (λ t. more_xors t l.driven) (put_xor l.driven) l.initial.cursor (term_lists l.initial.terms) l.cursor (term_lists l.terms);
+  goes : Along ors l.left l.driven l.initial.cursor (term_lists l.initial.terms) l.cursor (term_lists l.terms);
   behind : length l.cursor ≤ length l.initial.cursor;
 }
 
@@ -47,7 +44,7 @@ decreases-or-loop-place l = length l.cursor
 
 abbrev pub invariant-xor-loop-place : goal.invariant-xor-loop-place
 invariant-xor-loop-place l = record {
-  goes : Goes l.left (mark Xor then and) (λ t. more_ands t l.driven) (put_and l.driven) l.initial.cursor (term_lists l.initial.terms) l.cursor (term_lists l.terms);
+  goes : Along xors l.left l.driven l.initial.cursor (term_lists l.initial.terms) l.cursor (term_lists l.terms);
   behind : length l.cursor ≤ length l.initial.cursor;
 }
 
@@ -56,7 +53,7 @@ decreases-xor-loop-place l = length l.cursor
 
 abbrev pub invariant-and-loop-place : goal.invariant-and-loop-place
 invariant-and-loop-place l = record {
-  goes : Goes l.left (mark And then prefix) (λ t. more_prefixes t l.driven) (put_prefix l.driven) l.initial.cursor (term_lists l.initial.terms) l.cursor (term_lists l.terms);
+  goes : Along ands l.left l.driven l.initial.cursor (term_lists l.initial.terms) l.cursor (term_lists l.terms);
   behind : length l.cursor ≤ length l.initial.cursor;
 }
 

@@ -26,7 +26,7 @@ pub returns-in_err-take-clause-told : goal.returns-in_err-take-clause-told
 returns-in_err-take-clause-told c = λ n.
     let p = err_from_is_err_and c.from_residual-in_err-take.result c.from_residual-in_err-take.ensures.1 in
     rw (p.1, p.2) (then_stop_second n (mark Backslash) (integers then mark Backslash) _ c.in_ok-place.ensures.told.0 _ (word_got n (mark Backslash) tt _ _ _ c.in_ok-place.ensures.told.1) _ _
-    (then_stop_second n (integers) (mark Backslash) _ (c.in_ok-integers.ensures.told n).0 _ ((c.in_ok-integers.ensures.told n).1) _ _
+    (then_stop_second n (integers) (mark Backslash) _ (c.in_ok-integers.ensures.told n).0 _ (c.in_ok-integers.ensures.told n).1 _ _
     (word_stop n (mark Backslash) tt _ _ _ c.in_err-take.ensures.told)))
 
 pub returns-clause-told : goal.returns-clause-told

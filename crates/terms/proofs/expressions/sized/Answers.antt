@@ -18,13 +18,13 @@ returns-in_err-first-clause-told c = λ n.
 pub returns-in_err-take-clause-told : goal.returns-in_err-take-clause-told
 returns-in_err-take-clause-told c = λ n.
     let p = err_from_is_err_and c.from_residual-in_err-take.result c.from_residual-in_err-take.ensures.1 in
-    rw (p.1, p.2) (then_stop_second n (integer) (mark Dollar then integer) _ c.in_ok-first.ensures.told.0 _ (word_got n (integer) tt _ _ _ c.in_ok-first.ensures.told.1) _ _
+    rw (p.1, p.2) (then_stop_second n integer (mark Dollar then integer) _ c.in_ok-first.ensures.told.0 _ (word_got n integer tt _ _ _ c.in_ok-first.ensures.told.1) _ _
     (then_stop n (mark Dollar) integer _ _ _ (word_stop n (mark Dollar) tt _ _ _ c.in_err-take.ensures.told)))
 
 pub returns-in_err-second-clause-told : goal.returns-in_err-second-clause-told
 returns-in_err-second-clause-told c = λ n.
     let p = err_from_is_err_and c.from_residual-in_err-second.result c.from_residual-in_err-second.ensures.1 in
-    rw (p.1, p.2) (then_stop_second n (integer) (mark Dollar then integer) _ c.in_ok-first.ensures.told.0 _ (word_got n (integer) tt _ _ _ c.in_ok-first.ensures.told.1) _ _
+    rw (p.1, p.2) (then_stop_second n integer (mark Dollar then integer) _ c.in_ok-first.ensures.told.0 _ (word_got n integer tt _ _ _ c.in_ok-first.ensures.told.1) _ _
     (then_stop_second n (mark Dollar) (integer) _ c.in_ok-take.ensures.told.0 _ (word_got n (mark Dollar) tt _ _ _ c.in_ok-take.ensures.told.1) _ _
     (word_stop n integer tt _ _ _ c.in_err-second.ensures.told)))
 
@@ -33,5 +33,5 @@ returns-clause-told c = λ n.
     let m = c.in_ok-first.ensures.told in
     let d = c.in_ok-take.ensures.told in
     let k = c.in_ok-second.ensures.told in
-    let reads = then_got n integer (mark Dollar then integer) _ _ _ _ _ (word_got n (integer) tt _ _ _ m.1) (then_got n (mark Dollar) integer _ _ _ _ _ (word_got n (mark Dollar) tt _ _ _ d.1) (word_got n (integer) tt _ _ _ k.1)) in
+    let reads = then_got n integer (mark Dollar then integer) _ _ _ _ _ (word_got n integer tt _ _ _ m.1) (then_got n (mark Dollar) integer _ _ _ _ _ (word_got n (mark Dollar) tt _ _ _ d.1) (word_got n integer tt _ _ _ k.1)) in
     wrote_last (read n sized_rule c.args.cursor.now) (λ t. sized_rows t c.args.driven) (term_lists c.args.terms.now) _ _ (λ h. (both m.0 (both d.0 k.0), reads, sized_is m.0 d.0 k.0 _ _ _ m.2 k.2 _ _ h)) _ c.push.ensures

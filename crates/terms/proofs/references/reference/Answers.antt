@@ -1,4 +1,3 @@
-use Rattle.std.proofs.Common.{arith}
 use Rattle.std.proofs.lemmas.Result.{err_from_is_err_and}
 use Rattle.grammar.specs.Rules.{name, maybe}
 use Rattle.grammar.specs.Trees.{both}
@@ -22,5 +21,4 @@ pub returns-clause-told : goal.returns-clause-told
 returns-clause-told c = λ n.
     let m = c.in_ok-name.ensures.told in
     let q = c.in_ok-subscript.ensures.told n in
-    let parts = ref_is m.0 q.0 in
-    (both m.0 q.0, then_got n name (maybe subscript_rule) _ _ _ _ _ (word_got n name tt _ _ _ m.1) q.1, grind arith)
+    (both m.0 q.0, then_got n name (maybe subscript_rule) _ _ _ _ _ (word_got n name tt _ _ _ m.1) q.1, ref_is m.0 q.0 _ _ m.2 q.2)
