@@ -1,3 +1,5 @@
 pub mod Codes
 pub mod Spelling
+pub mod Signs
+pub mod Laws
 pub mod Faults

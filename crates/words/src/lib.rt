@@ -4,6 +4,7 @@
 ghost use Rattle.std.specs.Prelude.{IfOk, IfErr, vec_items};
 ghost use Rattle.words.specs.Spelling.{Spelled};
 ghost use Rattle.words.specs.Faults.{NoTokens};
+ghost use Rattle.words.specs.Laws.{WordLaws};
 
 use std::alloc::Global;
 
@@ -20,3 +21,9 @@ pub fn tokens(heap: Global, text: &[u8]) -> Result<Vec<Token>, TokensFault>
 {
     Err(TokensFault::OutOfMemory)
 }
+
+/// The laws of words. A text has one list of words, or one first wrong word, and not both. Its words and the separators
+/// between them, put together again in order, are the text.
+pub fn word_laws()
+    ensures { WordLaws }
+{}
