@@ -8,6 +8,7 @@ use Rattle.words.specs.declared.token.Keyword.{Keyword}
 use Rattle.words.specs.declared.token.Keyword.TheVariants.{Module, Inputs, Outputs, Memory, Buses, Body, Sequence, EndSequence, ControlReset, Null, DeadEnd, End}
 use Rattle.words.specs.Spelling.{is_separator, Every, Separators, sign_text, keyword_text, capitals, in_name, Lettered, Digits, OneWord, lettered, digits, sign}
 use Rattle.words.specs.Signs.{sign_at}
+use Rattle.words.specs.Reading.{Starts}
 
 -- letters, digits and separators are different bytes
 pub letter_no_digit : (b : ℕ) → is_ascii_alphabetic b ≡ true → is_ascii_digit b ≡ false
@@ -148,7 +149,7 @@ sign_back AndReduce = refl
 sign_back OrReduce = refl
 sign_back XorReduce = refl
 
-abbrev sign_or : Option (Sign × List ℕ) → Sign
+abbrev pub sign_or : Option (Sign × List ℕ) → Sign
 sign_or None = Dot
 sign_or (Some x) = x.0
 
@@ -207,10 +208,6 @@ pub lead_mark : (bytes : List ℕ) (s : Sign) → bytes ≡ sign_text s → lead
 lead_mark bytes s e = ap (λ bs. lead (first bs)) e ∙ lead_sign s
 
 -- the first byte of a word is no separator
-abbrev pub Starts : List ℕ → Type 0
-Starts [] = ⊥
-Starts (b ∷ bs) = is_separator b ≡ false
-
 some_byte : (bytes : List ℕ) → 1 ≤ length bytes → lead (first bytes) < 3 → Starts bytes
 some_byte [] l h = absurd (omega arith)
 some_byte (b ∷ bs) l h = lead_word b h

@@ -8,7 +8,8 @@ use Rattle.words.specs.declared.faults.WordFault.{WordFault}
 use Rattle.words.specs.declared.faults.WordFault.TheVariants.{NoWord, LongName, LargeInteger}
 use Rattle.words.specs.Spelling.{is_separator, Separators, Lettered, Digits, OneWord, Longest, Says, FirstWord, BeginsWith, WrongWord, FirstWrong, longest_name, most_digits, largest_integer, decimal_value}
 use Rattle.words.specs.Laws.{OneSpelling, OneMisspelling, NotBoth, Piece, together, Pieces, Whole, WordLaws}
-use Rattle.words.proofs.Bytes.{lead, first, one_sign, one_keyword, keyword_length, lead_lettered, lead_digits, lead_reserved, lead_mark, Starts, word_starts, starts_append, every_right, blank_starts}
+use Rattle.words.specs.Reading.{Starts}
+use Rattle.words.proofs.Bytes.{lead, first, one_sign, one_keyword, keyword_length, lead_lettered, lead_digits, lead_reserved, lead_mark, word_starts, starts_append, every_right, blank_starts}
 
 -- one fact in place of another that is the same
 along : {A B : Type 0} → A ≡ B → A → B

@@ -9,17 +9,26 @@ ghost use Rattle.words.specs.Laws.{WordLaws};
 use std::alloc::Global;
 
 mod faults;
+mod front;
+mod reader;
 mod token;
 
 pub use faults::{TokensFault, WordFault};
+pub use reader::{Word, Words};
 pub use token::{Keyword, Kind, Sign, Token};
 
+#[tactic(auto, using(crate::proofs::Reading::begins_pushed, crate::proofs::Reading::reads_less))]
 /// The words of a text, or its first wrong one.
 pub fn tokens(heap: Global, text: &[u8]) -> Result<Vec<Token>, TokensFault>
     ensures right { IfOk result (λ tokens. Spelled text.now (vec_items tokens)) }
     ensures wrong { IfErr result (NoTokens text.now) }
 {
-    Err(TokensFault::OutOfMemory)
+    let mut words = Words::new(text);
+    let mut tokens = Vec::new(heap);
+    while let Some(Word { kind, place, .. }) = words.next()? {
+        tokens.push(Token { kind, place })?;
+    }
+    Ok(tokens)
 }
 
 /// The laws of words. A text has one list of words, or one first wrong word, and not both. Its words and the separators
