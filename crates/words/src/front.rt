@@ -7,6 +7,12 @@ ghost use Rattle.words.specs.Signs.{sign_at};
 
 use crate::token::{Keyword, Kind, Sign};
 
+// How many bytes a name has at most.
+const LONGEST_NAME: usize = 20;
+
+// How many digits an integer has at most.
+const MOST_DIGITS: usize = 5;
+
 // Whether the byte separates words.
 fn is_separator(byte: u8) -> bool
     ensures { result ≡ is_separator byte }
@@ -42,8 +48,8 @@ pub(crate) fn integer_len(text: &[u8]) -> usize
     text.iter().take_while(|byte| byte.is_ascii_digit()).count()
 }
 
-#[tactic(auto, using(crate::proofs::Keywords::in_capitals, crate::proofs::Keywords::in_small, crate::proofs::Keywords::no_keyword))]
 /// The keyword that the bytes are, in either case of their letters.
+#[tactic(auto, using(crate::proofs::Keywords::in_capitals, crate::proofs::Keywords::in_small, crate::proofs::Keywords::no_keyword))]
 pub(crate) fn keyword(bytes: &[u8]) -> Option<Keyword>
     ensures { MatchOption result (NoKeyword bytes.now) (λ k. capitals bytes.now ≡ keyword_text k) }
 {
@@ -60,7 +66,7 @@ pub(crate) fn name(bytes: &[u8]) -> Option<Kind>
     requires { Lettered bytes.now }
     ensures { MatchOption result (longest_name < length bytes.now) (Says bytes.now) }
 {
-    if bytes.len() > 20 {
+    if bytes.len() > LONGEST_NAME {
         return None;
     }
     match keyword(bytes) {
@@ -69,15 +75,15 @@ pub(crate) fn name(bytes: &[u8]) -> Option<Kind>
     }
 }
 
-#[tactic(auto, using(crate::proofs::Decimals::decimal_more, crate::proofs::Decimals::decimal_grows, crate::proofs::Decimals::decimal_done, crate::proofs::Decimals::digit_at))]
 /// The value of the digits, if they are few enough and it is small enough.
+#[tactic(auto, using(crate::proofs::Decimals::decimal_more, crate::proofs::Decimals::decimal_grows, crate::proofs::Decimals::decimal_done, crate::proofs::Decimals::digit_at))]
 pub(crate) fn integer(digits: &[u8]) -> Option<u16>
     requires { Every is_ascii_digit digits.now }
     ensures { MatchOption result
         (length digits.now ≤ most_digits → decimal_value digits.now ≤ largest_integer → ⊥)
         (λ v. (v ≡ decimal_value digits.now) × (length digits.now ≤ most_digits) × (v ≤ largest_integer)) }
 {
-    if digits.len() > 5 {
+    if digits.len() > MOST_DIGITS {
         return None;
     }
     let mut value = 0u16;

@@ -17,8 +17,8 @@ pub use faults::{TokensFault, WordFault};
 pub use reader::{Word, Words};
 pub use token::{Keyword, Kind, Sign, Token};
 
-#[tactic(auto, using(crate::proofs::Reading::begins_pushed, crate::proofs::Reading::reads_less))]
 /// The words of a text, or its first wrong one.
+#[tactic(auto, using(crate::proofs::Reading::begins_pushed, crate::proofs::Reading::reads_less))]
 pub fn tokens(heap: Global, text: &[u8]) -> Result<Vec<Token>, TokensFault>
     ensures right { IfOk result (λ tokens. Spelled text.now (vec_items tokens)) }
     ensures wrong { IfErr result (NoTokens text.now) }

@@ -48,8 +48,8 @@ impl<'a> Words<'a> {
         }
     }
 
-    #[tactic(auto, using(crate::proofs::Runs::run_within, crate::proofs::Reading::gap_starts, crate::proofs::Reading::gap_wrong))]
     /// The next word, if there is one. A reader stays before a wrong word.
+    #[tactic(auto, using(crate::proofs::Runs::run_within, crate::proofs::Reading::gap_starts, crate::proofs::Reading::gap_wrong))]
     pub fn next(&mut self) -> Result<Option<Word<'a>>, WordFault>
         ensures { Reads self.old result self.new }
     {
@@ -72,8 +72,8 @@ impl<'a> Words<'a> {
     }
 }
 
-#[tactic(auto, using(crate::proofs::Runs::begins_at, crate::proofs::Runs::begins_not))]
 // The word at the front of a text, whose first byte is at the place: what it is, and how many bytes it has.
+#[tactic(auto, using(crate::proofs::Runs::begins_at, crate::proofs::Runs::begins_not))]
 fn first_word(text: &[u8], place: usize) -> Result<(Kind, usize), WordFault>
     requires { Starts text.now }
     ensures { Finds text.now place result }
@@ -85,8 +85,8 @@ fn first_word(text: &[u8], place: usize) -> Result<(Kind, usize), WordFault>
     }
 }
 
-#[tactic(auto, using(crate::proofs::Fronts::name_bytes, crate::proofs::Fronts::name_right, crate::proofs::Fronts::name_wrong))]
 // A name or a keyword.
+#[tactic(auto, using(crate::proofs::Fronts::name_bytes, crate::proofs::Fronts::name_right, crate::proofs::Fronts::name_wrong))]
 fn first_name(text: &[u8], place: usize) -> Result<(Kind, usize), WordFault>
     requires { Begins is_ascii_alphabetic text.now }
     ensures { Finds text.now place result }
@@ -96,8 +96,8 @@ fn first_name(text: &[u8], place: usize) -> Result<(Kind, usize), WordFault>
     Ok((kind, len))
 }
 
-#[tactic(auto, using(crate::proofs::Fronts::integer_bytes, crate::proofs::Fronts::integer_right, crate::proofs::Fronts::integer_wrong))]
 // An integer.
+#[tactic(auto, using(crate::proofs::Fronts::integer_bytes, crate::proofs::Fronts::integer_right, crate::proofs::Fronts::integer_wrong))]
 fn first_integer(text: &[u8], place: usize) -> Result<(Kind, usize), WordFault>
     requires { Begins is_ascii_digit text.now }
     ensures { Finds text.now place result }
@@ -107,8 +107,8 @@ fn first_integer(text: &[u8], place: usize) -> Result<(Kind, usize), WordFault>
     Ok((Kind::Integer(value), len))
 }
 
-#[tactic(auto, using(crate::proofs::Fronts::sign_wrong))]
 // A sign.
+#[tactic(auto, using(crate::proofs::Fronts::sign_wrong))]
 fn first_sign(text: &[u8], place: usize) -> Result<(Kind, usize), WordFault>
     requires starts { Starts text.now }
     requires no_letter { ¬ Begins is_ascii_alphabetic text.now }

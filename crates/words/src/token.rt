@@ -70,7 +70,7 @@ pub enum Keyword {
 
 impl Keyword {
     /// All keywords.
-    pub const ALL: [Keyword; 12] = [
+    pub(crate) const ALL: [Keyword; 12] = [
         Keyword::Module,
         Keyword::Inputs,
         Keyword::Outputs,
@@ -86,7 +86,7 @@ impl Keyword {
     ];
 
     /// How the keyword is written in capital letters.
-    pub fn text(self) -> &'static [u8]
+    pub(crate) fn text(self) -> &'static [u8]
         ensures { result.now ≡ keyword_text self }
     {
         match self {
