@@ -1,0 +1,102 @@
+-- How what a rule comes to follows from what the cursor and the readers of its parts tell. Assumes nothing.
+use Rattle.std.proofs.Common.{◌≡◌, ℕ, Bool, true, false, List, Ok, Err, Result, refl, sym, ap, ◌∙◌, arith}
+use Rattle.std.specs.Result.{IsErrAnd}
+use Rattle.std.proofs.lemmas.Bool.{cond-true, cond-false}
+use Rattle.words.specs.declared.token.Sign.{Sign}
+use Rattle.words.specs.declared.token.Token.{Token}
+use Rattle.grammar.specs.Rules.{Rule, mark, ◌then◌, either, fork}
+use Rattle.grammar.specs.Sorts.{sort, starts}
+use Rattle.grammar.specs.Trees.{Tree, mark_at, both, left, right, one, other}
+use Rattle.grammar.specs.Reading.{Out, got, wrong, deep, map_out, IsWord, read_word, plain, read_with, read_part, read}
+use Rattle.cursor.specs.declared.stop.Stop.{Stop}
+use Rattle.cursor.specs.Told.{mark_place, Stopped, Told, Wrote, Gave}
+use Rattle.cursor.proofs.Steps.{stop_by, word_is, then_stop, starts_then}
+
+-- o is what o' comes to, with k made of what is read
+pub record On {A C : Type 0} (o : Out C) (k : A → C) (o' : Out A) : Type 0 where
+  pub is : o ≡ map_out k o'
+
+map_map : {A B C : Type 0} (k : B → C) (j : A → B) (o : Out A) → map_out k (map_out j o) ≡ map_out (λ t. k (j t)) o
+map_map k j (got t ws) = refl
+map_map k j (wrong ws) = refl
+map_map k j (deep ws) = refl
+
+pub join : {A B C : Type 0} {o : Out C} {k : B → C} {p : Out B} {j : A → B} {q : Out A} → On o k p → On p j q → On o (λ t. k (j t)) q
+join {k = k} {j = j} {q = q} x y = record { is = x.is ∙ (ap (map_out k) y.is ∙ map_map k j q) }
+
+pub got_on : {A C : Type 0} {o : Out C} {k : A → C} {q : Out A} → On o k q → (t : A) (ws : List Token) → q ≡ got t ws → o ≡ got (k t) ws
+got_on {k = k} x t ws p = x.is ∙ ap (map_out k) p
+
+pub stop_on : {A C : Type 0} {o : Out C} {k : A → C} {q : Out A} → On o k q → (e : Stop) (rest : List Token) → Stopped q e rest → Stopped o e rest
+stop_on {o = o} {k = k} {q = q} x e rest h = stop_by q o (λ ws p. x.is ∙ ap (map_out k) p) (λ ws p. x.is ∙ ap (map_out k) p) e rest h
+
+-- a `?` that goes
+module _ {A D V : Type 0} (o : Out A) where
+  pub wrote_err : (f : A → D → D) (before after : D) (rest : List Token) (r : Result V Stop) (e : Stop) → IsErrAnd r (λ x. x ≡ e) → Stopped o e rest → Wrote o f before r rest after
+  wrote_err f before after rest (Ok v) e i h = absurd (i)
+  wrote_err f before after rest (Err x) e i h = rw i h
+
+  pub gave_err : (f : A → D → V × D) (before after : D) (rest : List Token) (r : Result V Stop) (e : Stop) → IsErrAnd r (λ x. x ≡ e) → Stopped o e rest → Gave o f before r rest after
+  gave_err f before after rest (Ok v) e i h = absurd (i)
+  gave_err f before after rest (Err x) e i h = rw i h
+
+-- a last call whose answer is handed on
+module _ {A C D V : Type 0} {o : Out C} {k : A → C} {q : Out A} (x : On o k q) (d₀ d₁ d₂ : D) (rest : List Token) where
+  pub wrote_on : (f : C → D → D) (g : A → D → D) → ((t : A) → f (k t) d₀ ≡ g t d₁) → (r : Result V Stop) → Wrote q g d₁ r rest d₂ → Wrote o f d₀ r rest d₂
+  wrote_on f g law (Ok v) (t, p, e) = (k t, got_on x t rest p, e ∙ sym (law t))
+  wrote_on f g law (Err e) h = stop_on x e rest h
+
+  pub gave_on : (f : C → D → V × D) (g : A → D → V × D) → ((t : A) → f (k t) d₀ ≡ g t d₁) → (r : Result V Stop) → Gave q g d₁ r rest d₂ → Gave o f d₀ r rest d₂
+  gave_on f g law (Ok v) (t, p, e) = (k t, got_on x t rest p, e ∙ sym (law t))
+  gave_on f g law (Err e) h = stop_on x e rest h
+
+mark_is : {s : Sign} (t : Tree (mark s)) → mark_at (mark_place t) ≡ t
+mark_is (mark_at p) = refl
+
+module _ (n : ℕ) where
+  pub word_stop : (r : Rule) → IsWord r → (ws : List Token) (e : Stop) (rest : List Token) → Stopped (read_word r ws) e rest → Stopped (read n r ws) e rest
+  word_stop r w ws e rest h = rw (word_is n r w ws) h
+
+  pub word_got : (r : Rule) → IsWord r → (ws : List Token) (t : Tree r) (us : List Token) → read_word r ws ≡ got t us → read n r ws ≡ got t us
+  word_got r w ws t us p = word_is n r w ws ∙ p
+
+  module _ (s : Sign) (ws : List Token) (p : ℕ) (us : List Token) (t : Told (read_word (mark s) ws) mark_place (Ok p) us) where
+    pub sign_got : read n (mark s) ws ≡ got (mark_at p) us
+    sign_got = word_is n (mark s) tt ws ∙ (t.1 ∙ ap (λ u. got u us) (sym (mark_is t.0) ∙ ap mark_at (sym t.2)))
+
+  module _ (a b : Rule) (ws : List Token) where
+    pub on_part : (t : Tree a) (us : List Token) → read n a ws ≡ got t us → On (read n (a then b) ws) (both t) (read n b us)
+    unfolding read read_with
+    on_part t us p = record { is = grind (arith, p) }
+
+    pub on_left : starts a (sort ws) ≡ true → On (read n (either a b) ws) left (read n a ws)
+    unfolding read read_with
+    on_left s = record { is = cond-true _ _ _ s }
+
+    pub on_right : starts a (sort ws) ≡ false → On (read n (either a b) ws) right (read n b ws)
+    unfolding read read_with
+    on_right s = record { is = cond-false _ _ _ s }
+
+    pub on_one : plain ws ≡ true → On (read n (fork a b) ws) one (read n a ws)
+    unfolding read read_with
+    on_one s = record { is = cond-true _ _ _ s }
+
+    pub on_other : plain ws ≡ false → On (read n (fork a b) ws) other (read n b ws)
+    unfolding read read_with
+    on_other s = record { is = cond-false _ _ _ s }
+
+  -- a sign, and what is behind it
+  module _ (s : Sign) (b : Rule) (ws : List Token) where
+    pub no_sign : (e : Stop) (rest : List Token) → Stopped (read_word (mark s) ws) e rest → Stopped (read n (mark s then b) ws) e rest
+    no_sign e rest h = then_stop n (mark s) b ws e rest (word_stop (mark s) tt ws e rest h)
+
+    pub on_sign : (p : ℕ) (us : List Token) → Told (read_word (mark s) ws) mark_place (Ok p) us → On (read n (mark s then b) ws) (both (mark_at p)) (read n b us)
+    on_sign p us t = on_part (mark s) b ws (mark_at p) us (sign_got s ws p us t)
+
+  -- a sign tells which way to go
+  module _ (s : Sign) (r b : Rule) (ws : List Token) (q : Bool) (e : q ≡ starts (mark s) (sort ws)) where
+    pub at_sign : q ≡ true → On (read n (either (mark s then r) b) ws) left (read n (mark s then r) ws)
+    at_sign h = on_left (mark s then r) b ws (starts_then (mark s) r (sort ws) refl ∙ (sym e ∙ h))
+
+    pub not_at_sign : q ≡ false → On (read n (either (mark s then r) b) ws) right (read n b ws)
+    not_at_sign h = on_right (mark s then r) b ws (starts_then (mark s) r (sort ws) refl ∙ (sym e ∙ h))

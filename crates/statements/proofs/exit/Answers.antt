@@ -1,0 +1,12 @@
+use Rattle.std.proofs.Common.{arith, rules}
+use Rattle.std.proofs.lemmas.Grind.{common_steps}
+use Rattle.statements.proofs.Steps.{wrote_err, word_stop, word_got}
+use Rattle.statements.proofs.exit.Goals as goal
+
+pub returns-in_err-integer-clause-told : goal.returns-in_err-integer-clause-told
+returns-in_err-integer-clause-told c = search (rules, word_stop)
+
+pub returns-clause-told : goal.returns-clause-told
+returns-clause-told c =
+    let t = c.in_ok-integer.ensures.told in
+    (t.0, word_got _ _ tt _ _ _ t.1, grind (arith, common_steps))
