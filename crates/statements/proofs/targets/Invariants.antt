@@ -1,4 +1,4 @@
-use Rattle.std.proofs.Common.{length}
+use Rattle.std.proofs.Common.{◌≤◌, length}
 use Rattle.words.specs.declared.token.Sign.TheVariants.{Comma}
 use Rattle.grammar.specs.Rules.{mark, ref, integer, ◌then◌}
 use Rattle.grammar.specs.Promise.{deepest}
@@ -8,7 +8,10 @@ use Rattle.statements.specs.Parts.{next_target_rows, next_exit_rows}
 use Rattle.statements.proofs.targets.Given as goal
 
 abbrev pub invariant-more : goal.invariant-more
-invariant-more l = Goes deepest (mark Comma then ref) more_targets next_target_rows l.initial.cursor (row_lists l.initial.rows) l.cursor (row_lists l.rows)
+invariant-more l = record {
+  goes : Goes deepest (mark Comma then ref) more_targets next_target_rows l.initial.cursor (row_lists l.initial.rows) l.cursor (row_lists l.rows);
+  shorter : length l.cursor ≤ length l.initial.cursor;
+}
 
 abbrev pub decreases-more : goal.decreases-more
 decreases-more l = length l.cursor

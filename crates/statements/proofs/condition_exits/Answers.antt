@@ -1,0 +1,35 @@
+use Rattle.std.proofs.Common.{ℕ, length, refl, sym, ap, ◌∙◌, rules, arith, Some, None}
+use Rattle.std.proofs.lemmas.Result.{err_from_is_err_and}
+use Rattle.statements.proofs.Steps.{got_on, stop_on, join, wrote_on, gave_on, on_part, on_left, on_right, on_sign, on_one, on_other, no_sign, at_sign, not_at_sign, word_stop, word_got, sign_got}
+use Rattle.words.specs.declared.token.Sign.TheVariants.{Comma, RightParen, Semicolon}
+use Rattle.grammar.specs.declared.draft.StatementKind.TheVariants.{Connection, Transfer}
+use Rattle.grammar.specs.declared.draft.Leaving.TheVariants.{Next, Plain, Conditions, Dead}
+use Rattle.grammar.specs.Rules.{mark, integer, integers, ref, targets, many, expr, stmt, branch, ◌then◌}
+use Rattle.grammar.specs.Trees.{both, mark_at, left, right, one, other}
+use Rattle.grammar.specs.Promise.{deepest}
+use Rattle.grammar.specs.Drafts.{RowLists, row_lists, more_targets, ref_of, conn_rows, stmt_rows, branch_rows, series_rows, action_rows, step_rows}
+use Rattle.cursor.proofs.Steps.{goes_start, then_stop}
+use Rattle.statements.specs.Parts.{next_target_rows, next_exit_rows, assigned_rows, assignment_rows, exit_list_rows, condition_branch_rows}
+use Rattle.statements.proofs.Parts.{conn_are, stmt_are, plain_are, conditions_are}
+use Rattle.statements.proofs.condition_exits.Goals as goal
+
+pub returns-in_err-node-clause-told : goal.returns-in_err-node-clause-told
+returns-in_err-node-clause-told c = let p = err_from_is_err_and c.from_residual.result c.from_residual.ensures.1 in rw (p.1, p.2) (then_stop _ _ _ _ _ _ c.in_err-node.ensures.told)
+
+pub returns-in_err-take-clause-told : goal.returns-in_err-take-clause-told
+returns-in_err-take-clause-told c = let p = err_from_is_err_and c.from_residual-in_err-take.result c.from_residual-in_err-take.ensures.1 in rw (p.1, p.2) (stop_on (on_part _ _ _ _ c.in_ok-node.ensures.told.0 _ c.in_ok-node.ensures.told.1) _ _ (no_sign _ _ _ _ _ _ c.in_err-take.ensures.told))
+
+pub returns-in_err-place-clause-told : goal.returns-in_err-place-clause-told
+returns-in_err-place-clause-told c = let p = err_from_is_err_and c.from_residual-in_err-place.result c.from_residual-in_err-place.ensures.1 in rw (p.1, p.2) (stop_on (join (on_part _ _ _ _ c.in_ok-node.ensures.told.0 _ c.in_ok-node.ensures.told.1) (on_sign _ _ _ _ _ _ c.in_ok-take.ensures.told)) _ _ (no_sign _ _ _ _ _ _ c.in_err-place.ensures.told))
+
+pub returns-in_err-take-2-clause-told : goal.returns-in_err-take-2-clause-told
+returns-in_err-take-2-clause-told c = let p = err_from_is_err_and c.from_residual-in_err-take-2.result c.from_residual-in_err-take-2.ensures.1 in rw (p.1, p.2) (stop_on (join (join (on_part _ _ _ _ c.in_ok-node.ensures.told.0 _ c.in_ok-node.ensures.told.1) (on_sign _ _ _ _ _ _ c.in_ok-take.ensures.told)) (on_sign _ _ _ _ _ _ c.in_ok-place.ensures.told)) _ _ (no_sign _ _ _ _ _ _ c.in_err-take-2.ensures.told))
+
+pub returns-in_err-exits-clause-told : goal.returns-in_err-exits-clause-told
+returns-in_err-exits-clause-told c = let p = err_from_is_err_and c.from_residual-in_err-exits.result c.from_residual-in_err-exits.ensures.1 in rw (p.1, p.2) (stop_on (join (join (join (on_part _ _ _ _ c.in_ok-node.ensures.told.0 _ c.in_ok-node.ensures.told.1) (on_sign _ _ _ _ _ _ c.in_ok-take.ensures.told)) (on_sign _ _ _ _ _ _ c.in_ok-place.ensures.told)) (on_sign _ _ _ _ _ _ c.in_ok-take-2.ensures.told)) _ _ c.in_err-exits.ensures.told)
+
+pub returns-clause-told : goal.returns-clause-told
+returns-clause-told c = 
+    let t = c.in_ok-node.ensures.told in
+    let v = c.in_ok-exits.ensures.told in
+    (_, got_on (join (join (join (on_part _ _ _ _ c.in_ok-node.ensures.told.0 _ c.in_ok-node.ensures.told.1) (on_sign _ _ _ _ _ _ c.in_ok-take.ensures.told)) (on_sign _ _ _ _ _ _ c.in_ok-place.ensures.told)) (on_sign _ _ _ _ _ _ c.in_ok-take-2.ensures.told)) v.0 _ v.1, ?)
