@@ -25,9 +25,9 @@ returns-in_err-exits-clause-told c = let p = err_from_is_err_and c.from_residual
 pub returns-in_ok-exits-clause-told : goal.returns-in_ok-exits-clause-told
 returns-in_ok-exits-clause-told c = 
     let v = c.in_ok-exits.ensures.told in
-    (_, got_on (join (join (on_sign _ _ _ _ _ _ c.in_ok-take.ensures.told) (on_sign _ _ _ _ _ _ c.in_ok-take-2.ensures.told)) (on_one _ _ _ _ (sym c.at_list.ensures ∙ c.if-at_list.true))) v.0 _ v.1, ap (λ d. (Plain, d)) v.2 ∙ sym (plain_are c.args.step _ _ (row_lists c.args.rows.now) v.0))
+    (_, got_on (join (join (on_sign _ _ _ _ _ _ c.in_ok-take.ensures.told) (on_sign _ _ _ _ _ _ c.in_ok-take-2.ensures.told)) (on_one _ _ _ _ (sym c.at_list.ensures ∙ c.if-at_list.true))) v.0 _ v.1, ap (λ d. (Plain, d)) v.2 ∙ sym (plain_are c.args.step (mark_at c.in_ok-take.field-0) (mark_at c.in_ok-take-2.field-0) (row_lists c.args.rows.now) v.0))
 
 pub returns-else-at_list-clause-told : goal.returns-else-at_list-clause-told
 returns-else-at_list-clause-told c = 
     let before = row_lists c.args.rows.now in
-    gave_on (join (join (on_sign _ _ _ _ _ _ c.in_ok-take.ensures.told) (on_sign _ _ _ _ _ _ c.in_ok-take-2.ensures.told)) (on_other _ _ _ _ (sym c.at_list.ensures ∙ c.if-at_list.false))) before before (row_lists c.condition_exits.new.rows) c.condition_exits.new.cursor (branch_rows c.args.step) (condition_branch_rows c.args.step) (λ t. conditions_are c.args.step _ _ before t) c.condition_exits.result c.condition_exits.ensures.told
+    gave_on (join (join (on_sign _ _ _ _ _ _ c.in_ok-take.ensures.told) (on_sign _ _ _ _ _ _ c.in_ok-take-2.ensures.told)) (on_other _ _ _ _ (sym c.at_list.ensures ∙ c.if-at_list.false))) before before (row_lists c.condition_exits.new.rows) c.condition_exits.new.cursor (branch_rows c.args.step) (condition_branch_rows c.args.step) (λ t. conditions_are c.args.step (mark_at c.in_ok-take.field-0) (mark_at c.in_ok-take-2.field-0) before t) c.condition_exits.result c.condition_exits.ensures.told

@@ -1,4 +1,4 @@
-use Rattle.std.proofs.Common.{ℕ, length, refl, sym, ap, ◌∙◌, rules, arith, Some, None}
+use Rattle.std.proofs.Common.{◌≡◌, ℕ, length, refl, sym, ap, ◌∙◌, rules, arith, Some, None}
 use Rattle.std.proofs.lemmas.Result.{err_from_is_err_and}
 use Rattle.statements.proofs.Steps.{got_on, stop_on, join, wrote_on, gave_on, on_part, on_left, on_right, on_sign, on_one, on_other, no_sign, at_sign, not_at_sign, word_stop, word_got, sign_got}
 use Rattle.words.specs.declared.token.Sign.TheVariants.{Comma, RightParen, Semicolon}
@@ -32,4 +32,5 @@ pub returns-clause-told : goal.returns-clause-told
 returns-clause-told c = 
     let t = c.in_ok-node.ensures.told in
     let v = c.in_ok-exits.ensures.told in
-    (_, got_on (join (join (join (on_part _ _ _ _ c.in_ok-node.ensures.told.0 _ c.in_ok-node.ensures.told.1) (on_sign _ _ _ _ _ _ c.in_ok-take.ensures.told)) (on_sign _ _ _ _ _ _ c.in_ok-place.ensures.told)) (on_sign _ _ _ _ _ _ c.in_ok-take-2.ensures.told)) v.0 _ v.1, ?)
+    let count : c.len.result ≡ length (row_lists c.exits.new.rows).exits = search rules in
+    (_, got_on (join (join (join (on_part _ _ _ _ c.in_ok-node.ensures.told.0 _ c.in_ok-node.ensures.told.1) (on_sign _ _ _ _ _ _ c.in_ok-take.ensures.told)) (on_sign _ _ _ _ _ _ c.in_ok-place.ensures.told)) (on_sign _ _ _ _ _ _ c.in_ok-take-2.ensures.told)) v.0 _ v.1, ap (λ n. (Conditions (record { place = c.in_ok-place.place; node = c.in_ok-node.node }) n, row_lists c.exits.new.rows)) count ∙ (ap (λ d. (Conditions (record { place = c.in_ok-place.place; node = c.in_ok-node.node }) (length d.exits), d)) v.2 ∙ ap (λ x. (Conditions (record { place = c.in_ok-place.place; node = x.0 }) (length (exit_list_rows c.args.step v.0 x.1).exits), exit_list_rows c.args.step v.0 x.1)) t.2))
