@@ -4,14 +4,14 @@ use Rattle.words.specs.declared.token.Sign.TheVariants.{Comma}
 use Rattle.words.specs.declared.token.Token.{Token}
 use Rattle.grammar.specs.declared.draft.Listed.{Listed}
 use Rattle.grammar.specs.declared.draft.Exit.{Exit}
-use Rattle.grammar.specs.Rules.{Rule, mark, integer, integers, ref, many, ◌then◌}
+use Rattle.grammar.specs.Rules.{Rule, mark, integer, ref, many, ◌then◌}
 use Rattle.grammar.specs.Sorts.{sort, starts}
 use Rattle.grammar.specs.Trees.{Tree, mark_at, both, end, more}
 use Rattle.grammar.specs.Reading.{got, read}
 use Rattle.grammar.specs.Drafts.{RowLists, with_exits, listed_at, more_listed, exit_at, exit_rows, more_targets}
 use Rattle.cursor.specs.declared.stop.Stop.{Stop}
 use Rattle.cursor.specs.Told.{Stopped, Wrote}
-use Rattle.cursor.proofs.Steps.{Goes, goes_start, goes_turn, goes_end, goes_stop, starts_then}
+use Rattle.cursor.proofs.Steps.{Goes, goes_turn, goes_end, goes_stop, starts_then}
 use Rattle.statements.specs.Parts.{one_exit, next_exit_rows, next_target_rows}
 
 -- a comma is a word

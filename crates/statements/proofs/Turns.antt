@@ -3,21 +3,24 @@ use Rattle.std.proofs.Common.{◌≡◌, ℕ, suc, ◌-◌, ◌<◌, Bool, true,
 use Rattle.std.proofs.lemmas.Bool.{cond-true, cond-false}
 use Rattle.words.specs.declared.token.Sign.TheVariants.{Semicolon, Branch, LeftParen}
 use Rattle.words.specs.declared.token.Token.{Token}
-use Rattle.grammar.specs.declared.draft.Leaving.{Leaving}
 use Rattle.grammar.specs.declared.draft.Leaving.TheVariants.{Next}
-use Rattle.grammar.specs.Rules.{Rule, mark, ◌then◌, series, stmt, branch}
+use Rattle.grammar.specs.Rules.{Rule, mark, ◌then◌, fork, series, stmt, branch}
 use Rattle.grammar.specs.Sorts.{sort, starts}
 use Rattle.grammar.specs.Trees.{Tree, mark_at, last, closing, next}
-use Rattle.grammar.specs.Reading.{Out, got, wrong, map_out, and_then, read_word, read_series, series_on, read_with, read_part, read}
+use Rattle.grammar.specs.Reading.{Out, wrong, map_out, and_then, read_word, read_series, series_on, read_with, read}
 use Rattle.grammar.specs.Drafts.{RowLists, stmt_rows, series_rows}
 use Rattle.cursor.specs.declared.stop.Stop.{Stop}
-use Rattle.cursor.specs.declared.stop.Stop.TheVariants.{Unexpected, TooDeep, OutOfMemory}
 use Rattle.cursor.specs.Told.{mark_place, Stopped, Told, Wrote, Gave}
 use Rattle.cursor.proofs.Steps.{starts_then, stop_by}
+use Rattle.statements.specs.Parts.{exit_list, condition_branch}
 use Rattle.statements.proofs.Steps.{On, join, got_on, stop_on}
 
 abbrev pub statements : Rule
 statements = series stmt Semicolon branch
+
+-- what is behind the sign of a branch
+abbrev behind : Rule
+behind = mark LeftParen then fork exit_list condition_branch
 
 -- reading on with at most so many turns
 pub on : ℕ → ℕ → List Token → Out (Tree statements)
@@ -37,16 +40,10 @@ module _ (n : ℕ) (ws : List Token) where
   unfolding on read_series
   on_statement f h = cond-false _ _ _ h
 
--- a sign that the next word is not, and one that it is
+-- a sign that the next word is not
 not_taken : (ws : List Token) → starts (mark Semicolon) (sort ws) ≡ false → read_word (mark Semicolon) ws ≡ wrong ws
 not_taken [] h = refl
 not_taken (w ∷ ws) h = grind arith
-
-pub taken : (ws : List Token) → starts (mark Semicolon) (sort ws) ≡ true → (e : Stop) → e ≡ Unexpected → (rest : List Token) → Stopped (read_word (mark Semicolon) ws) e rest → ⊥
-taken [] h e i rest x = absurd (cc)
-taken (w ∷ ws) h Unexpected i rest x = grind arith
-taken (w ∷ ws) h TooDeep i rest x = absurd (cc)
-taken (w ∷ ws) h OutOfMemory i rest x = absurd (cc)
 
 -- What the loop has come to in the step s, from the words ws₀ and the rows d₀ to ws and d: the whole comes to what
 -- reading on comes to.
@@ -69,7 +66,7 @@ module _ (n s : ℕ) where
 
   module _ (ws₀ : List Token) (d₀ : RowLists) (ws : List Token) (d : RowLists) (g : Turns n s ws₀ d₀ ws d) (q : Bool) (at : q ≡ starts (mark Branch) (sort ws)) where
     begins : (x : Bool) → q ≡ x → starts branch (sort ws) ≡ x
-    begins x h = starts_then (mark Branch) _ (sort ws) refl ∙ (sym at ∙ h)
+    begins x h = starts_then (mark Branch) behind (sort ws) refl ∙ (sym at ∙ h)
 
     fuel : g.turns ≡ suc (g.turns - 1)
     fuel = let x = g.enough in omega arith
@@ -77,23 +74,27 @@ module _ (n s : ℕ) where
     pub turns_branch : q ≡ true → On (read n statements ws₀) (λ t. g.whole (closing t)) (read n branch ws)
     turns_branch h = join g.so_far (record { is = ap (λ f. on n f ws) fuel ∙ on_branch n ws (g.turns - 1) (begins true h) })
 
-    step : q ≡ false → on n g.turns ws ≡ and_then (read n stmt ws) (λ t us. series_on stmt Semicolon branch (on n (g.turns - 1)) t us (read_word (mark Semicolon) us))
+    -- what comes behind a statement
+    abbrev go_on : Tree stmt → List Token → Out (Tree statements)
+    go_on t us = series_on stmt Semicolon branch (on n (g.turns - 1)) t us (read_word (mark Semicolon) us)
+
+    step : q ≡ false → on n g.turns ws ≡ and_then (read n stmt ws) go_on
     step h = ap (λ f. on n f ws) fuel ∙ on_statement n ws (g.turns - 1) (begins false h)
 
     -- a statement that is not read
     pub turns_stop : q ≡ false → (e : Stop) (rest : List Token) → Stopped (read n stmt ws) e rest → Stopped (read n statements ws₀) e rest
     turns_stop h e rest x =
         stop_on g.so_far e rest
-        (stop_by (read n stmt ws) (on n g.turns ws) (λ us p. step h ∙ ap (λ o. and_then o _) p) (λ us p. step h ∙ ap (λ o. and_then o _) p) e rest x)
+        (stop_by (read n stmt ws) (on n g.turns ws) (λ us p. step h ∙ ap (λ o. and_then o go_on) p) (λ us p. step h ∙ ap (λ o. and_then o go_on) p) e rest x)
 
     module _ (h : q ≡ false) (us : List Token) (d' : RowLists) (w : Wrote {V = Unit {0}} (read n stmt ws) (stmt_rows s) d (Ok tt) us d') where
-      behind : on n g.turns ws ≡ series_on stmt Semicolon branch (on n (g.turns - 1)) w.0 us (read_word (mark Semicolon) us)
-      behind = step h ∙ ap (λ o. and_then o (λ t us. series_on stmt Semicolon branch (on n (g.turns - 1)) t us (read_word (mark Semicolon) us))) w.1
+      after : on n g.turns ws ≡ go_on w.0 us
+      after = step h ∙ ap (λ o. and_then o go_on) w.1
 
       -- the last statement
       pub turns_last : starts (mark Semicolon) (sort us) ≡ false → Gave (read n statements ws₀) (series_rows s) d₀ (Ok Next) us d'
       turns_last k =
-          (g.whole (last w.0), got_on g.so_far (last w.0) us (behind ∙ ap (series_on stmt Semicolon branch (on n (g.turns - 1)) w.0 us) (not_taken us k)), ap (λ d. (Next, d)) w.2 ∙ sym (g.rows (last w.0)))
+          (g.whole (last w.0), got_on g.so_far (last w.0) us (after ∙ ap (series_on stmt Semicolon branch (on n (g.turns - 1)) w.0 us) (not_taken us k)), ap (λ d. (Next, d)) w.2 ∙ sym (g.rows (last w.0)))
 
       -- a statement and the sign behind it
       pub turns_turn : (p : ℕ) (vs : List Token) → Told (read_word (mark Semicolon) us) mark_place (Ok p) vs → length vs < length ws → Turns n s ws₀ d₀ vs d'
@@ -101,6 +102,6 @@ module _ (n s : ℕ) where
         turns = g.turns - 1;
         enough = let x = g.enough in omega arith;
         whole = λ t. g.whole (next w.0 p' t);
-        so_far = join g.so_far (record { is = behind ∙ ap (series_on stmt Semicolon branch (on n (g.turns - 1)) w.0 us) r });
+        so_far = join g.so_far (record { is = after ∙ ap (series_on stmt Semicolon branch (on n (g.turns - 1)) w.0 us) r });
         rows = λ t. g.rows (next w.0 p' t) ∙ ap (series_rows s t) (sym w.2);
       }

@@ -1,14 +1,13 @@
 -- The rules and the rows of parts of a statement and of a step. Assumes nothing.
-use Rattle.std.specs.Prelude.{ℕ, List, [], ◌∷◌, ◌++◌, length, Option, Some, None}
+use Rattle.std.specs.Prelude.{ℕ, [], ◌∷◌, ◌++◌, length, Option, Some, None}
 use Rattle.words.specs.declared.token.Sign.{Sign}
 use Rattle.words.specs.declared.token.Sign.TheVariants.{Comma, LeftParen, RightParen, Slash, Star, Equal, Transfer as TransferSign}
 use Rattle.grammar.specs.declared.draft.Condition.{Condition}
 use Rattle.grammar.specs.declared.draft.StatementKind.{StatementKind}
 use Rattle.grammar.specs.declared.draft.StatementKind.TheVariants.{Connection, Transfer}
 use Rattle.grammar.specs.declared.draft.Leaving.TheVariants.{Conditions}
-use Rattle.grammar.specs.declared.draft.Exit.{Exit}
-use Rattle.grammar.specs.Rules.{Rule, mark, integer, integers, ref, expr, either, many, ◌then◌}
-use Rattle.grammar.specs.Trees.{Tree, mark_at, both, end, more, left, right}
+use Rattle.grammar.specs.Rules.{Rule, mark, integer, integers, ref, expr, either, ◌then◌}
+use Rattle.grammar.specs.Trees.{Tree, mark_at, both, left, right}
 use Rattle.grammar.specs.Drafts.{RowLists, with_target, with_exits, target_at, listed_at, exit_at, exit_rows, root, head_at, value_rows, condition_rows, condition_at, Left}
 
 -- * (expr) <= expr

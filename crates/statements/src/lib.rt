@@ -231,10 +231,7 @@ fn condition_exits(cursor: &mut Cursor<'_>, rows: &mut Rows, step: usize) -> Res
     let place = cursor.take(Sign::Slash)?;
     cursor.take(Sign::LeftParen)?;
     exits(cursor, rows, step)?;
-    Ok(Leaving::Conditions(
-        Condition { place, node },
-        rows.exits.len(),
-    ))
+    Ok(Leaving::Conditions(Condition { place, node }, rows.exits.len()))
 }
 
 // Reads the branch of the step.

@@ -1,6 +1,6 @@
-use Rattle.std.proofs.Common.{refl, sym, ap, ◌∙◌, rules, Some, None}
+use Rattle.std.proofs.Common.{refl}
 use Rattle.std.proofs.lemmas.Result.{err_from_is_err_and}
-use Rattle.statements.proofs.Steps.{got_on, stop_on, join, wrote_on, gave_on, on_part, on_sign, on_one, on_other, no_sign, at_sign, not_at_sign, word_stop, word_got}
+use Rattle.statements.proofs.Steps.{wrote_on, on_sign, no_sign}
 use Rattle.grammar.specs.Drafts.{row_lists, head_at, value_rows}
 use Rattle.statements.specs.Parts.{assigned_rows}
 use Rattle.statements.proofs.assigned.Goals as goal
@@ -9,7 +9,7 @@ pub returns-in_err-sign-clause-told : goal.returns-in_err-sign-clause-told
 returns-in_err-sign-clause-told c = let p = err_from_is_err_and c.from_residual.result c.from_residual.ensures.1 in rw (p.1, p.2) (no_sign _ _ _ _ _ _ c.in_err-sign.ensures.told)
 
 pub returns-clause-told : goal.returns-clause-told
-returns-clause-told c = 
+returns-clause-told c =
     let before = row_lists c.args.rows.now in
     let h = c.args.head in
     wrote_on (on_sign _ _ _ _ _ _ c.in_ok-sign.ensures.told) before before (row_lists c.value.new.rows) c.value.new.cursor (assigned_rows h.place h.step h.kind h.condition) (value_rows (head_at h.place h.step h.kind h.condition c.in_ok-sign.sign)) (λ e. refl) c.value.result c.value.ensures.told

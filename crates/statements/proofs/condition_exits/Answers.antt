@@ -1,16 +1,10 @@
-use Rattle.std.proofs.Common.{◌≡◌, ℕ, length, refl, sym, ap, ◌∙◌, rules, arith, Some, None}
+use Rattle.std.proofs.Common.{◌≡◌, length, ap, ◌∙◌, rules}
 use Rattle.std.proofs.lemmas.Result.{err_from_is_err_and}
-use Rattle.statements.proofs.Steps.{got_on, stop_on, join, wrote_on, gave_on, on_part, on_left, on_right, on_sign, on_one, on_other, no_sign, at_sign, not_at_sign, word_stop, word_got, sign_got}
-use Rattle.words.specs.declared.token.Sign.TheVariants.{Comma, RightParen, Semicolon}
-use Rattle.grammar.specs.declared.draft.StatementKind.TheVariants.{Connection, Transfer}
-use Rattle.grammar.specs.declared.draft.Leaving.TheVariants.{Next, Plain, Conditions, Dead}
-use Rattle.grammar.specs.Rules.{mark, integer, integers, ref, targets, many, expr, stmt, branch, ◌then◌}
-use Rattle.grammar.specs.Trees.{both, mark_at, left, right, one, other}
-use Rattle.grammar.specs.Promise.{deepest}
-use Rattle.grammar.specs.Drafts.{RowLists, row_lists, more_targets, ref_of, conn_rows, stmt_rows, branch_rows, series_rows, action_rows, step_rows}
-use Rattle.cursor.proofs.Steps.{goes_start, then_stop}
-use Rattle.statements.specs.Parts.{next_target_rows, next_exit_rows, assigned_rows, assignment_rows, exit_list_rows, condition_branch_rows}
-use Rattle.statements.proofs.Parts.{conn_are, stmt_are, plain_are, conditions_are}
+use Rattle.statements.proofs.Steps.{got_on, stop_on, join, on_part, on_sign, no_sign}
+use Rattle.grammar.specs.declared.draft.Leaving.TheVariants.{Conditions}
+use Rattle.grammar.specs.Drafts.{row_lists}
+use Rattle.cursor.proofs.Steps.{then_stop}
+use Rattle.statements.specs.Parts.{exit_list_rows}
 use Rattle.statements.proofs.condition_exits.Goals as goal
 
 pub returns-in_err-node-clause-told : goal.returns-in_err-node-clause-told
@@ -29,7 +23,7 @@ pub returns-in_err-exits-clause-told : goal.returns-in_err-exits-clause-told
 returns-in_err-exits-clause-told c = let p = err_from_is_err_and c.from_residual-in_err-exits.result c.from_residual-in_err-exits.ensures.1 in rw (p.1, p.2) (stop_on (join (join (join (on_part _ _ _ _ c.in_ok-node.ensures.told.0 _ c.in_ok-node.ensures.told.1) (on_sign _ _ _ _ _ _ c.in_ok-take.ensures.told)) (on_sign _ _ _ _ _ _ c.in_ok-place.ensures.told)) (on_sign _ _ _ _ _ _ c.in_ok-take-2.ensures.told)) _ _ c.in_err-exits.ensures.told)
 
 pub returns-clause-told : goal.returns-clause-told
-returns-clause-told c = 
+returns-clause-told c =
     let t = c.in_ok-node.ensures.told in
     let v = c.in_ok-exits.ensures.told in
     let count : c.len.result ≡ length (row_lists c.exits.new.rows).exits = search rules in

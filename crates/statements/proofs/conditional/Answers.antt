@@ -4,9 +4,9 @@ use Rattle.words.specs.declared.token.Sign.TheVariants.{Transfer as TransferSign
 use Rattle.grammar.specs.Rules.{mark, ◌then◌, expr}
 use Rattle.grammar.specs.Trees.{Tree}
 use Rattle.grammar.specs.Drafts.{RowLists}
-use Rattle.std.proofs.Common.{refl, sym, ap, ◌∙◌, rules, Some, None}
+use Rattle.std.proofs.Common.{sym, ap, Some}
 use Rattle.std.proofs.lemmas.Result.{err_from_is_err_and}
-use Rattle.statements.proofs.Steps.{got_on, stop_on, join, wrote_on, gave_on, on_part, on_sign, on_one, on_other, no_sign, at_sign, not_at_sign, word_stop, word_got}
+use Rattle.statements.proofs.Steps.{stop_on, join, wrote_on, on_part, on_sign, no_sign}
 use Rattle.grammar.specs.declared.draft.StatementKind.TheVariants.{Transfer}
 use Rattle.grammar.specs.Drafts.{row_lists}
 use Rattle.statements.specs.Parts.{assigned_rows, conditional_rows}
@@ -25,7 +25,7 @@ pub returns-in_err-take-2-clause-told : goal.returns-in_err-take-2-clause-told
 returns-in_err-take-2-clause-told c = let p = err_from_is_err_and c.from_residual-in_err-take-2.result c.from_residual-in_err-take-2.ensures.1 in rw (p.1, p.2) (stop_on (join (join (on_sign _ _ _ _ _ _ c.in_ok-star.ensures.told) (on_sign _ _ _ _ _ _ c.in_ok-take.ensures.told)) (on_part _ _ _ _ c.in_ok-node.ensures.told.0 _ c.in_ok-node.ensures.told.1)) _ _ (no_sign _ _ _ _ _ _ c.in_err-take-2.ensures.told))
 
 pub returns-clause-told : goal.returns-clause-told
-returns-clause-told c = 
+returns-clause-told c =
     let t = c.in_ok-node.ensures.told in
     let rows_of = λ (x : ℕ × RowLists) (u : Tree (mark TransferSign then expr)). assigned_rows c.args.place (Some c.args.step) Transfer (Some (record { place = c.in_ok-star.star; node = x.0 })) u x.1 in
     wrote_on (join (join (join (on_sign _ _ _ _ _ _ c.in_ok-star.ensures.told) (on_sign _ _ _ _ _ _ c.in_ok-take.ensures.told)) (on_part _ _ _ _ c.in_ok-node.ensures.told.0 _ c.in_ok-node.ensures.told.1)) (on_sign _ _ _ _ _ _ c.in_ok-take-2.ensures.told)) (row_lists c.args.rows.now) (row_lists c.condition.new.rows) (row_lists c.assigned.new.rows) c.assigned.new.cursor (conditional_rows c.args.place c.args.step) (λ u _. rows_of (c.in_ok-node.node, row_lists c.condition.new.rows) u) (λ u. ap (λ x. rows_of x u) (sym t.2)) c.assigned.result c.assigned.ensures.told

@@ -1,6 +1,6 @@
 use Rattle.std.proofs.Common.{arith, rules}
 use Rattle.std.proofs.lemmas.Grind.{common_steps}
-use Rattle.statements.proofs.Steps.{wrote_err, word_stop, word_got}
+use Rattle.statements.proofs.Steps.{word_stop, word_got}
 use Rattle.statements.proofs.exit.Goals as goal
 
 pub returns-in_err-integer-clause-told : goal.returns-in_err-integer-clause-told

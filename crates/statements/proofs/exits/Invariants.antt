@@ -1,10 +1,10 @@
 use Rattle.std.proofs.Common.{◌≤◌, length}
 use Rattle.words.specs.declared.token.Sign.TheVariants.{Comma}
-use Rattle.grammar.specs.Rules.{mark, ref, integer, ◌then◌}
+use Rattle.grammar.specs.Rules.{mark, integer, ◌then◌}
 use Rattle.grammar.specs.Promise.{deepest}
-use Rattle.grammar.specs.Drafts.{row_lists, more_targets}
+use Rattle.grammar.specs.Drafts.{row_lists}
 use Rattle.cursor.proofs.Steps.{Goes}
-use Rattle.statements.specs.Parts.{next_target_rows, next_exit_rows}
+use Rattle.statements.specs.Parts.{next_exit_rows}
 use Rattle.statements.proofs.Lists.{more_exits}
 use Rattle.statements.proofs.exits.Given as goal
 

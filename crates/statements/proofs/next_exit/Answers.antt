@@ -1,6 +1,6 @@
-use Rattle.std.proofs.Common.{refl, sym, ap, ◌∙◌, rules, Some, None}
+use Rattle.std.proofs.Common.{refl, Some}
 use Rattle.std.proofs.lemmas.Result.{err_from_is_err_and}
-use Rattle.statements.proofs.Steps.{got_on, stop_on, join, wrote_on, gave_on, on_part, on_sign, on_one, on_other, no_sign, at_sign, not_at_sign, word_stop, word_got}
+use Rattle.statements.proofs.Steps.{wrote_on, on_sign, no_sign}
 use Rattle.grammar.specs.Drafts.{row_lists}
 use Rattle.statements.specs.Parts.{one_exit, next_exit_rows}
 use Rattle.statements.proofs.next_exit.Goals as goal
@@ -9,6 +9,6 @@ pub returns-in_err-comma-clause-told : goal.returns-in_err-comma-clause-told
 returns-in_err-comma-clause-told c = let p = err_from_is_err_and c.from_residual.result c.from_residual.ensures.1 in rw (p.1, p.2) (no_sign _ _ _ _ _ _ c.in_err-comma.ensures.told)
 
 pub returns-clause-told : goal.returns-clause-told
-returns-clause-told c = 
+returns-clause-told c =
     let before = row_lists c.args.rows.now in
     wrote_on (on_sign _ _ _ _ _ _ c.in_ok-comma.ensures.told) before before (row_lists c.exit.new.rows) c.exit.new.cursor (next_exit_rows c.args.step) (one_exit c.args.step (Some c.in_ok-comma.comma)) (λ i. refl) c.exit.result c.exit.ensures.told

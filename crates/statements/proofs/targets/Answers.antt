@@ -1,14 +1,14 @@
-use Rattle.std.proofs.Common.{refl, sym, ap, ◌∙◌, rules, arith, Some, None}
+use Rattle.std.proofs.Common.{refl, ap, ◌∙◌, arith}
 use Rattle.std.proofs.lemmas.Result.{err_from_is_err_and}
-use Rattle.statements.proofs.Steps.{got_on, stop_on, join, wrote_on, gave_on, on_part, on_sign, on_one, on_other, no_sign, at_sign, not_at_sign, word_stop, word_got, sign_got}
-use Rattle.words.specs.declared.token.Sign.TheVariants.{Comma, RightParen}
-use Rattle.grammar.specs.Rules.{mark, integer, integers, ref, targets, many, ◌then◌}
-use Rattle.grammar.specs.Trees.{both, mark_at}
+use Rattle.statements.proofs.Steps.{got_on, stop_on, on_part}
+use Rattle.words.specs.declared.token.Sign.TheVariants.{Comma}
+use Rattle.grammar.specs.Rules.{mark, ref, many, ◌then◌}
+use Rattle.grammar.specs.Trees.{both}
 use Rattle.grammar.specs.Promise.{deepest}
-use Rattle.grammar.specs.Drafts.{row_lists, more_targets, ref_of}
+use Rattle.grammar.specs.Drafts.{row_lists, more_targets}
 use Rattle.cursor.proofs.Steps.{goes_start, then_stop}
-use Rattle.statements.specs.Parts.{next_target_rows, next_exit_rows}
-use Rattle.statements.proofs.Lists.{commas_turn, commas_end, commas_stop, targets_turn, more_exits, exits_are}
+use Rattle.statements.specs.Parts.{next_target_rows}
+use Rattle.statements.proofs.Lists.{commas_turn, commas_end, commas_stop, targets_turn}
 use Rattle.statements.proofs.targets.Goals as goal
 
 pub returns-in_err-place-clause-told : goal.returns-in_err-place-clause-told
@@ -24,7 +24,7 @@ pub returns-in_err-next_target-clause-told : goal.returns-in_err-next_target-cla
 returns-in_err-next_target-clause-told c = let p = err_from_is_err_and c.from_residual-in_err-next_target.result c.from_residual-in_err-next_target.ensures.1 in rw (p.1, p.2) (stop_on (on_part deepest ref (many (mark Comma then ref)) c.args.cursor.now c.in_ok-place.ensures.told.0 c.target.new.cursor c.in_ok-place.ensures.told.1) _ _ (commas_stop deepest ref more_targets next_target_rows c.target.new.cursor (row_lists c.target.new.rows) c.more.cursor (row_lists c.more.rows) c.more.invariant.goes c.at.result c.at.ensures c.more-test.true _ _ c.in_err-next_target.ensures.told))
 
 pub returns-clause-told : goal.returns-clause-told
-returns-clause-told c = 
+returns-clause-told c =
     let t = c.in_ok-place.ensures.told in
     let u = commas_end deepest ref more_targets next_target_rows c.target.new.cursor (row_lists c.target.new.rows) c.more.cursor (row_lists c.more.rows) c.more.invariant.goes c.at.result c.at.ensures (λ d. refl) c.more-test.false in
     (both t.0 u.0, got_on (on_part deepest ref (many (mark Comma then ref)) c.args.cursor.now c.in_ok-place.ensures.told.0 c.target.new.cursor c.in_ok-place.ensures.told.1) u.0 c.more.cursor u.1, ap (λ d. (c.in_ok-place.place, d)) u.2 ∙ ap (λ x. (x.0, more_targets u.0 x.1)) t.2)
