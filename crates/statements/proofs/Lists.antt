@@ -8,11 +8,11 @@ use Rattle.grammar.specs.Rules.{Rule, mark, integer, ref, many, ◌then◌}
 use Rattle.grammar.specs.Sorts.{sort, starts}
 use Rattle.grammar.specs.Trees.{Tree, mark_at, both, end, more}
 use Rattle.grammar.specs.Reading.{got, read}
-use Rattle.grammar.specs.Drafts.{RowLists, with_exits, listed_at, more_listed, exit_at, exit_rows, more_targets}
+use Rattle.grammar.specs.Drafts.{RowLists, with_exits, listed_at, more_listed, exit_at, more_targets}
 use Rattle.cursor.specs.declared.stop.Stop.{Stop}
 use Rattle.cursor.specs.Told.{Stopped, Wrote}
 use Rattle.cursor.proofs.Steps.{Goes, goes_turn, goes_end, goes_stop, starts_then}
-use Rattle.statements.specs.Parts.{one_exit, next_exit_rows, next_target_rows}
+use Rattle.statements.specs.Parts.{one_exit, next_exit_rows, next_target_rows, exits_written}
 
 -- a comma is a word
 long : (ws : List Token) → starts (mark Comma) (sort ws) ≡ true → 0 < length ws
@@ -54,5 +54,5 @@ more_exits_are s (more (both (mark_at p) i) is) xs ys d =
     ap (λ l. more_exits s is (with_exits d l)) (append_assoc xs (map (exit_at s) ys) (exit_at s (listed_at (Some p) i) ∷ []) ∙ ap (λ l. xs ++ l) (sym (map_more (exit_at s) ys (listed_at (Some p) i))))
     ∙ more_exits_are s is xs (ys ++ listed_at (Some p) i ∷ []) d
 
-pub exits_are : (s : ℕ) (i : Tree integer) (is : Tree (many (mark Comma then integer))) (d : RowLists) → more_exits s is (one_exit s None i d) ≡ with_exits d (exit_rows s (both i is) d.exits)
+pub exits_are : (s : ℕ) (i : Tree integer) (is : Tree (many (mark Comma then integer))) (d : RowLists) → more_exits s is (one_exit s None i d) ≡ exits_written s (both i is) d
 exits_are s i is d = more_exits_are s is d.exits (listed_at None i ∷ []) d

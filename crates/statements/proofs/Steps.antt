@@ -1,20 +1,37 @@
 -- How what a rule comes to follows from what the cursor and the readers of its parts tell. Assumes nothing.
-use Rattle.std.proofs.Common.{◌≡◌, ℕ, Bool, true, false, List, Ok, Err, Result, refl, sym, ap, ◌∙◌, arith}
-use Rattle.std.specs.Result.{IsErrAnd}
+use Rattle.std.proofs.Common.{◌≡◌, ℕ, Bool, true, false, cond, List, Ok, Err, Result, refl, sym, ap, ◌∙◌, arith}
 use Rattle.std.proofs.lemmas.Bool.{cond-true, cond-false}
 use Rattle.words.specs.declared.token.Sign.{Sign}
 use Rattle.words.specs.declared.token.Token.{Token}
-use Rattle.grammar.specs.Rules.{Rule, mark, ◌then◌, either, fork}
+use Rattle.grammar.specs.Rules.{Rule, mark, integer, ◌then◌, either, fork}
 use Rattle.grammar.specs.Sorts.{sort, starts}
 use Rattle.grammar.specs.Trees.{Tree, mark_at, both, left, right, one, other}
-use Rattle.grammar.specs.Reading.{Out, got, wrong, deep, map_out, IsWord, read_word, plain, read_with, read}
+use Rattle.grammar.specs.Reading.{Out, got, wrong, deep, and_then, map_out, IsWord, read_word, plain, read_with, read}
 use Rattle.cursor.specs.declared.stop.Stop.{Stop}
 use Rattle.cursor.specs.Told.{mark_place, Stopped, Told, Wrote, Gave}
-use Rattle.cursor.proofs.Steps.{stop_by, word_is, then_stop, starts_then}
+use Rattle.cursor.proofs.Steps.{stop_by, word_is, starts_then}
 
--- o is what o' comes to, with k made of what is read
-pub record On {A C : Type 0} (o : Out C) (k : A → C) (o' : Out A) : Type 0 where
-  pub is : o ≡ map_out k o'
+-- What a rule comes to, by its parts. Where a `?` stops, this tells that the rule stops there.
+module _ (n : ℕ) where
+  pub read_mark : (s : Sign) (ws : List Token) → read n (mark s) ws ≡ read_word (mark s) ws
+  read_mark s ws = word_is n (mark s) tt ws
+
+  pub read_integer : (ws : List Token) → read n integer ws ≡ read_word integer ws
+  read_integer ws = word_is n integer tt ws
+
+  pub read_then : (a b : Rule) (ws : List Token) → read n (a then b) ws ≡ and_then (read n a ws) (λ t us. map_out (both t) (read n b us))
+  unfolding read read_with
+  read_then a b ws = refl
+
+  pub read_fork : (a b : Rule) (ws : List Token) → read n (fork a b) ws ≡ cond (plain ws) (map_out one (read n a ws)) (map_out other (read n b ws))
+  unfolding read read_with
+  read_fork a b ws = refl
+
+pub ruleset steps = (read_mark, read_integer, read_then, read_fork)
+
+-- o is what q comes to, with k made of what is read
+pub record On {A C : Type 0} (o : Out C) (k : A → C) (q : Out A) : Type 0 where
+  pub is : o ≡ map_out k q
 
 map_map : {A B C : Type 0} (k : B → C) (j : A → B) (o : Out A) → map_out k (map_out j o) ≡ map_out (λ t. k (j t)) o
 map_map k j (got t ws) = refl
@@ -30,16 +47,6 @@ got_on {k = k} x t ws p = x.is ∙ ap (map_out k) p
 pub stop_on : {A C : Type 0} {o : Out C} {k : A → C} {q : Out A} → On o k q → (e : Stop) (rest : List Token) → Stopped q e rest → Stopped o e rest
 stop_on {o = o} {k = k} {q = q} x e rest h = stop_by q o (λ ws p. x.is ∙ ap (map_out k) p) (λ ws p. x.is ∙ ap (map_out k) p) e rest h
 
--- a `?` that goes
-module _ {A D V : Type 0} (o : Out A) where
-  pub wrote_err : (f : A → D → D) (before after : D) (rest : List Token) (r : Result V Stop) (e : Stop) → IsErrAnd r (λ x. x ≡ e) → Stopped o e rest → Wrote o f before r rest after
-  wrote_err f before after rest (Ok v) e i h = absurd (i)
-  wrote_err f before after rest (Err x) e i h = rw i h
-
-  pub gave_err : (f : A → D → V × D) (before after : D) (rest : List Token) (r : Result V Stop) (e : Stop) → IsErrAnd r (λ x. x ≡ e) → Stopped o e rest → Gave o f before r rest after
-  gave_err f before after rest (Ok v) e i h = absurd (i)
-  gave_err f before after rest (Err x) e i h = rw i h
-
 -- a last call whose answer is handed on
 module _ {A C D V : Type 0} {o : Out C} {k : A → C} {q : Out A} (x : On o k q) (d₀ d₁ d₂ : D) (rest : List Token) where
   pub wrote_on : (f : C → D → D) (g : A → D → D) → ((t : A) → f (k t) d₀ ≡ g t d₁) → (r : Result V Stop) → Wrote q g d₁ r rest d₂ → Wrote o f d₀ r rest d₂
@@ -50,20 +57,18 @@ module _ {A C D V : Type 0} {o : Out C} {k : A → C} {q : Out A} (x : On o k q)
   gave_on f g law (Ok v) (t, p, e) = (k t, got_on x t rest p, e ∙ sym (law t))
   gave_on f g law (Err e) h = stop_on x e rest h
 
+-- single words
 mark_is : {s : Sign} (t : Tree (mark s)) → mark_at (mark_place t) ≡ t
 mark_is (mark_at p) = refl
 
 module _ (n : ℕ) where
-  pub word_stop : (r : Rule) → IsWord r → (ws : List Token) (e : Stop) (rest : List Token) → Stopped (read_word r ws) e rest → Stopped (read n r ws) e rest
-  word_stop r w ws e rest h = rw (word_is n r w ws) h
-
   pub word_got : (r : Rule) → IsWord r → (ws : List Token) (t : Tree r) (us : List Token) → read_word r ws ≡ got t us → read n r ws ≡ got t us
   word_got r w ws t us p = word_is n r w ws ∙ p
 
-  module _ (s : Sign) (ws : List Token) (p : ℕ) (us : List Token) (t : Told (read_word (mark s) ws) mark_place (Ok p) us) where
-    pub sign_got : read n (mark s) ws ≡ got (mark_at p) us
-    sign_got = word_is n (mark s) tt ws ∙ (t.1 ∙ ap (λ u. got u us) (sym (mark_is t.0) ∙ ap mark_at (sym t.2)))
+  pub sign_got : (s : Sign) (ws : List Token) (p : ℕ) (us : List Token) → Told (read_word (mark s) ws) mark_place (Ok p) us → read n (mark s) ws ≡ got (mark_at p) us
+  sign_got s ws p us (t, q, e) = word_is n (mark s) tt ws ∙ (q ∙ ap (λ u. got u us) (sym (mark_is t) ∙ ap mark_at (sym e)))
 
+  -- behind the first part, and where the next words tell which way to go
   module _ (a b : Rule) (ws : List Token) where
     pub on_part : (t : Tree a) (us : List Token) → read n a ws ≡ got t us → On (read n (a then b) ws) (both t) (read n b us)
     unfolding read read_with
@@ -85,18 +90,16 @@ module _ (n : ℕ) where
     unfolding read read_with
     on_other s = record { is = cond-false _ _ _ s }
 
-  -- a sign, and what is behind it
-  module _ (s : Sign) (b : Rule) (ws : List Token) where
-    pub no_sign : (e : Stop) (rest : List Token) → Stopped (read_word (mark s) ws) e rest → Stopped (read n (mark s then b) ws) e rest
-    no_sign e rest h = then_stop n (mark s) b ws e rest (word_stop (mark s) tt ws e rest h)
+  pub on_sign : (s : Sign) (b : Rule) (ws : List Token) (p : ℕ) (us : List Token) → Told (read_word (mark s) ws) mark_place (Ok p) us → On (read n (mark s then b) ws) (both (mark_at p)) (read n b us)
+  on_sign s b ws p us t = on_part (mark s) b ws (mark_at p) us (sign_got s ws p us t)
 
-    pub on_sign : (p : ℕ) (us : List Token) → Told (read_word (mark s) ws) mark_place (Ok p) us → On (read n (mark s then b) ws) (both (mark_at p)) (read n b us)
-    on_sign p us t = on_part (mark s) b ws (mark_at p) us (sign_got s ws p us t)
+  -- the sign that is asked for is the first of the left part
+  module _ (s : Sign) (r b : Rule) (ws : List Token) (q : Bool) (at : q ≡ starts (mark s) (sort ws)) where
+    begins : (x : Bool) → q ≡ x → starts (mark s then r) (sort ws) ≡ x
+    begins x h = starts_then (mark s) r (sort ws) refl ∙ (sym at ∙ h)
 
-  -- a sign tells which way to go
-  module _ (s : Sign) (r b : Rule) (ws : List Token) (q : Bool) (e : q ≡ starts (mark s) (sort ws)) where
     pub at_sign : q ≡ true → On (read n (either (mark s then r) b) ws) left (read n (mark s then r) ws)
-    at_sign h = on_left (mark s then r) b ws (starts_then (mark s) r (sort ws) refl ∙ (sym e ∙ h))
+    at_sign h = on_left (mark s then r) b ws (begins true h)
 
     pub not_at_sign : q ≡ false → On (read n (either (mark s then r) b) ws) right (read n b ws)
-    not_at_sign h = on_right (mark s then r) b ws (starts_then (mark s) r (sort ws) refl ∙ (sym e ∙ h))
+    not_at_sign h = on_right (mark s then r) b ws (begins false h)

@@ -1,10 +1,10 @@
 -- The loop that reads {stmt ;} stmt | {stmt ;} branch. Assumes nothing.
 use Rattle.std.proofs.Common.{◌≡◌, ℕ, suc, ◌-◌, ◌<◌, Bool, true, false, List, [], ◌∷◌, length, Ok, refl, sym, ap, ◌∙◌, arith}
 use Rattle.std.proofs.lemmas.Bool.{cond-true, cond-false}
-use Rattle.words.specs.declared.token.Sign.TheVariants.{Semicolon, Branch, LeftParen}
+use Rattle.words.specs.declared.token.Sign.TheVariants.{Semicolon, Branch, LeftParen, RightParen}
 use Rattle.words.specs.declared.token.Token.{Token}
 use Rattle.grammar.specs.declared.draft.Leaving.TheVariants.{Next}
-use Rattle.grammar.specs.Rules.{Rule, mark, ◌then◌, fork, series, stmt, branch}
+use Rattle.grammar.specs.Rules.{Rule, mark, ◌then◌, fork, series, integers, stmt, branch}
 use Rattle.grammar.specs.Sorts.{sort, starts}
 use Rattle.grammar.specs.Trees.{Tree, mark_at, last, closing, next}
 use Rattle.grammar.specs.Reading.{Out, wrong, map_out, and_then, read_word, read_series, series_on, read_with, read}
@@ -12,7 +12,7 @@ use Rattle.grammar.specs.Drafts.{RowLists, stmt_rows, series_rows}
 use Rattle.cursor.specs.declared.stop.Stop.{Stop}
 use Rattle.cursor.specs.Told.{mark_place, Stopped, Told, Wrote, Gave}
 use Rattle.cursor.proofs.Steps.{starts_then, stop_by}
-use Rattle.statements.specs.Parts.{exit_list, condition_branch}
+use Rattle.statements.specs.Parts.{condition_branch}
 use Rattle.statements.proofs.Steps.{On, join, got_on, stop_on}
 
 abbrev pub statements : Rule
@@ -20,7 +20,7 @@ statements = series stmt Semicolon branch
 
 -- what is behind the sign of a branch
 abbrev behind : Rule
-behind = mark LeftParen then fork exit_list condition_branch
+behind = mark LeftParen then fork (integers then mark RightParen) condition_branch
 
 -- reading on with at most so many turns
 pub on : ℕ → ℕ → List Token → Out (Tree statements)

@@ -18,13 +18,9 @@ conditional = mark Star then mark LeftParen then expr then mark RightParen then 
 abbrev pub assignment : Rule
 assignment = either (mark Equal then expr) (either (mark TransferSign then expr) conditional)
 
--- list )
-abbrev pub exit_list : Rule
-exit_list = integers then mark RightParen
-
 -- expr) / (list)
 abbrev pub condition_branch : Rule
-condition_branch = expr then mark RightParen then mark Slash then mark LeftParen then exit_list
+condition_branch = expr then mark RightParen then mark Slash then mark LeftParen then integers then mark RightParen
 
 -- a comma and the target behind it
 abbrev pub next_target_rows : Tree (mark Comma then ref) → RowLists → RowLists
@@ -56,12 +52,12 @@ one_exit s c i d = with_exits d (d.exits ++ exit_at s (listed_at c i) ∷ [])
 abbrev pub next_exit_rows : ℕ → Tree (mark Comma then integer) → RowLists → RowLists
 next_exit_rows s (both (mark_at p) i) d = one_exit s (Some p) i d
 
-abbrev pub exit_list_rows : ℕ → Tree exit_list → RowLists → RowLists
-exit_list_rows s (both is z) d = with_exits d (exit_rows s is d.exits)
+abbrev pub exits_written : ℕ → Tree integers → RowLists → RowLists
+exits_written s is d = with_exits d (exit_rows s is d.exits)
 
 -- how the step s is left by a branch with a condition, and the rows with those of the branch
 abbrev pub condition_branch_rows : ℕ → Tree condition_branch → RowLists → Left
-condition_branch_rows s (both c (both z (both (mark_at p) (both q is)))) d =
+condition_branch_rows s (both c (both z (both (mark_at p) (both q (both is y))))) d =
     let after = condition_rows c d in
-    let all = exit_list_rows s is after in
+    let all = exits_written s is after in
     (Conditions (condition_at p after) (length all.exits), all)

@@ -1,14 +1,14 @@
 //! The readers of connections, transfers, branches and steps.
-#![tactic(auto)]
+#![tactic(auto, using(crate::proofs::Steps::steps))]
 
 ghost use Rattle.std.specs.Prelude.{◌≡◌, ◌<◌, length, OnOk, Some};
 ghost use Rattle.words.specs.declared.token.Sign.TheVariants.{Comma, Semicolon};
-ghost use Rattle.grammar.specs.Rules.{conn, step as step_rule, targets as targets_rule, stmt, branch as branch_rule, action as action_rule, ref, integer, ◌then◌, mark, series as series_rule, expr};
+ghost use Rattle.grammar.specs.Rules.{conn, step as step_rule, targets as targets_rule, stmt, branch as branch_rule, action as action_rule, ref, integer, integers, ◌then◌, mark, series as series_rule, expr};
 ghost use Rattle.grammar.specs.Reading.{read};
 ghost use Rattle.grammar.specs.Promise.{deepest};
 ghost use Rattle.grammar.specs.Drafts.{row_lists, with_target, target_at, ref_of, targets_place, target_rows, value_rows, head_at, conn_rows, stmt_rows, branch_rows, series_rows, action_rows, step_rows};
 ghost use Rattle.cursor.specs.Told.{Wrote, Gave};
-ghost use Rattle.statements.specs.Parts.{conditional as conditional_rule, assignment as assignment_rule, exit_list, condition_branch, next_target_rows, condition_given, assigned_rows, conditional_rows, assignment_rows, one_exit, next_exit_rows, exit_list_rows, condition_branch_rows};
+ghost use Rattle.statements.specs.Parts.{conditional as conditional_rule, assignment as assignment_rule, condition_branch, next_target_rows, condition_given, assigned_rows, conditional_rows, assignment_rows, one_exit, next_exit_rows, exits_written, condition_branch_rows};
 
 use cursor::{AnyInteger, Cursor, Stop};
 use grammar::{Condition, Exit, Leaving, Listed, Rows, Statement, StatementKind, Step, Target};
@@ -208,16 +208,15 @@ fn next_exit(cursor: &mut Cursor<'_>, rows: &mut Rows, step: usize) -> Result<()
     exit(cursor, rows, step, Some(comma))
 }
 
-// Reads the exits of the step, and the `)` behind them.
+// Reads the exits of the step.
 fn exits(cursor: &mut Cursor<'_>, rows: &mut Rows, step: usize) -> Result<(), Stop>
-    ensures told { Wrote (read deepest exit_list cursor.old) (exit_list_rows step) (row_lists rows.old) result cursor.new (row_lists rows.new) }
+    ensures told { Wrote (read deepest integers cursor.old) (exits_written step) (row_lists rows.old) result cursor.new (row_lists rows.new) }
     ensures forward { OnOk result (length cursor.new < length cursor.old) }
 {
     exit(cursor, rows, step, None)?;
     'more: while cursor.at(Sign::Comma) {
         next_exit(cursor, rows, step)?;
     }
-    cursor.take(Sign::RightParen)?;
     Ok(())
 }
 
@@ -231,6 +230,7 @@ fn condition_exits(cursor: &mut Cursor<'_>, rows: &mut Rows, step: usize) -> Res
     let place = cursor.take(Sign::Slash)?;
     cursor.take(Sign::LeftParen)?;
     exits(cursor, rows, step)?;
+    cursor.take(Sign::RightParen)?;
     Ok(Leaving::Conditions(Condition { place, node }, rows.exits.len()))
 }
 
@@ -243,6 +243,7 @@ fn branch(cursor: &mut Cursor<'_>, rows: &mut Rows, step: usize) -> Result<Leavi
     cursor.take(Sign::LeftParen)?;
     if cursor.at_list() {
         exits(cursor, rows, step)?;
+        cursor.take(Sign::RightParen)?;
         Ok(Leaving::Plain)
     } else {
         condition_exits(cursor, rows, step)

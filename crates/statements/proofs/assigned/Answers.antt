@@ -1,12 +1,8 @@
 use Rattle.std.proofs.Common.{refl}
-use Rattle.std.proofs.lemmas.Result.{err_from_is_err_and}
-use Rattle.statements.proofs.Steps.{wrote_on, on_sign, no_sign}
+use Rattle.statements.proofs.Steps.{wrote_on, on_sign}
 use Rattle.grammar.specs.Drafts.{row_lists, head_at, value_rows}
 use Rattle.statements.specs.Parts.{assigned_rows}
 use Rattle.statements.proofs.assigned.Goals as goal
-
-pub returns-in_err-sign-clause-told : goal.returns-in_err-sign-clause-told
-returns-in_err-sign-clause-told c = let p = err_from_is_err_and c.from_residual.result c.from_residual.ensures.1 in rw (p.1, p.2) (no_sign _ _ _ _ _ _ c.in_err-sign.ensures.told)
 
 pub returns-clause-told : goal.returns-clause-told
 returns-clause-told c =

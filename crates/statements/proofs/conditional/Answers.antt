@@ -1,28 +1,14 @@
-use Rattle.cursor.proofs.Steps.{then_stop}
 use Rattle.std.proofs.Common.{ℕ}
 use Rattle.words.specs.declared.token.Sign.TheVariants.{Transfer as TransferSign}
 use Rattle.grammar.specs.Rules.{mark, ◌then◌, expr}
 use Rattle.grammar.specs.Trees.{Tree}
 use Rattle.grammar.specs.Drafts.{RowLists}
 use Rattle.std.proofs.Common.{sym, ap, Some}
-use Rattle.std.proofs.lemmas.Result.{err_from_is_err_and}
-use Rattle.statements.proofs.Steps.{stop_on, join, wrote_on, on_part, on_sign, no_sign}
+use Rattle.statements.proofs.Steps.{join, wrote_on, on_part, on_sign}
 use Rattle.grammar.specs.declared.draft.StatementKind.TheVariants.{Transfer}
 use Rattle.grammar.specs.Drafts.{row_lists}
 use Rattle.statements.specs.Parts.{assigned_rows, conditional_rows}
 use Rattle.statements.proofs.conditional.Goals as goal
-
-pub returns-in_err-star-clause-told : goal.returns-in_err-star-clause-told
-returns-in_err-star-clause-told c = let p = err_from_is_err_and c.from_residual.result c.from_residual.ensures.1 in rw (p.1, p.2) (no_sign _ _ _ _ _ _ c.in_err-star.ensures.told)
-
-pub returns-in_err-take-clause-told : goal.returns-in_err-take-clause-told
-returns-in_err-take-clause-told c = let p = err_from_is_err_and c.from_residual-in_err-take.result c.from_residual-in_err-take.ensures.1 in rw (p.1, p.2) (stop_on (on_sign _ _ _ _ _ _ c.in_ok-star.ensures.told) _ _ (no_sign _ _ _ _ _ _ c.in_err-take.ensures.told))
-
-pub returns-in_err-node-clause-told : goal.returns-in_err-node-clause-told
-returns-in_err-node-clause-told c = let p = err_from_is_err_and c.from_residual-in_err-node.result c.from_residual-in_err-node.ensures.1 in rw (p.1, p.2) (stop_on (join (on_sign _ _ _ _ _ _ c.in_ok-star.ensures.told) (on_sign _ _ _ _ _ _ c.in_ok-take.ensures.told)) _ _ (then_stop _ _ _ _ _ _ c.in_err-node.ensures.told))
-
-pub returns-in_err-take-2-clause-told : goal.returns-in_err-take-2-clause-told
-returns-in_err-take-2-clause-told c = let p = err_from_is_err_and c.from_residual-in_err-take-2.result c.from_residual-in_err-take-2.ensures.1 in rw (p.1, p.2) (stop_on (join (join (on_sign _ _ _ _ _ _ c.in_ok-star.ensures.told) (on_sign _ _ _ _ _ _ c.in_ok-take.ensures.told)) (on_part _ _ _ _ c.in_ok-node.ensures.told.0 _ c.in_ok-node.ensures.told.1)) _ _ (no_sign _ _ _ _ _ _ c.in_err-take-2.ensures.told))
 
 pub returns-clause-told : goal.returns-clause-told
 returns-clause-told c =

@@ -1,10 +1,7 @@
-use Rattle.std.proofs.Common.{arith, rules}
+use Rattle.std.proofs.Common.{arith}
 use Rattle.std.proofs.lemmas.Grind.{common_steps}
-use Rattle.statements.proofs.Steps.{word_stop, word_got}
+use Rattle.statements.proofs.Steps.{word_got}
 use Rattle.statements.proofs.exit.Goals as goal
-
-pub returns-in_err-integer-clause-told : goal.returns-in_err-integer-clause-told
-returns-in_err-integer-clause-told c = search (rules, word_stop)
 
 pub returns-clause-told : goal.returns-clause-told
 returns-clause-told c =

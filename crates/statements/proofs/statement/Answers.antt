@@ -1,14 +1,9 @@
 use Rattle.std.proofs.Common.{sym, ap, ◌∙◌}
-use Rattle.std.proofs.lemmas.Result.{err_from_is_err_and}
 use Rattle.statements.proofs.Steps.{wrote_on, on_part}
 use Rattle.grammar.specs.Drafts.{row_lists, stmt_rows}
-use Rattle.cursor.proofs.Steps.{then_stop}
 use Rattle.statements.specs.Parts.{assignment_rows}
 use Rattle.statements.proofs.Parts.{stmt_are}
 use Rattle.statements.proofs.statement.Goals as goal
-
-pub returns-in_err-place-clause-told : goal.returns-in_err-place-clause-told
-returns-in_err-place-clause-told c = let p = err_from_is_err_and c.from_residual.result c.from_residual.ensures.1 in rw (p.1, p.2) (then_stop _ _ _ _ _ _ c.in_err-place.ensures.told)
 
 pub returns-clause-told : goal.returns-clause-told
 returns-clause-told c =

@@ -6,13 +6,10 @@ use Rattle.grammar.specs.Rules.{mark, ref, many, ◌then◌}
 use Rattle.grammar.specs.Trees.{both}
 use Rattle.grammar.specs.Promise.{deepest}
 use Rattle.grammar.specs.Drafts.{row_lists, more_targets}
-use Rattle.cursor.proofs.Steps.{goes_start, then_stop}
+use Rattle.cursor.proofs.Steps.{goes_start}
 use Rattle.statements.specs.Parts.{next_target_rows}
 use Rattle.statements.proofs.Lists.{commas_turn, commas_end, commas_stop, targets_turn}
 use Rattle.statements.proofs.targets.Goals as goal
-
-pub returns-in_err-place-clause-told : goal.returns-in_err-place-clause-told
-returns-in_err-place-clause-told c = let p = err_from_is_err_and c.from_residual.result c.from_residual.ensures.1 in rw (p.1, p.2) (then_stop _ _ _ _ _ _ c.in_err-place.ensures.told)
 
 pub more-init : goal.more-init
 more-init c = record { goes = goes_start deepest (mark Comma then ref) more_targets next_target_rows c.target.new.cursor (row_lists c.target.new.rows); shorter = omega arith }
