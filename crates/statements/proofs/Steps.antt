@@ -2,8 +2,9 @@
 use Rattle.std.proofs.Common.{◌≡◌, ℕ, Bool, true, false, cond, List, Ok, Err, Result, refl, sym, ap, ◌∙◌, arith}
 use Rattle.std.proofs.lemmas.Bool.{cond-true, cond-false}
 use Rattle.words.specs.declared.token.Sign.{Sign}
+use Rattle.words.specs.declared.token.Keyword.{Keyword}
 use Rattle.words.specs.declared.token.Token.{Token}
-use Rattle.grammar.specs.Rules.{Rule, mark, integer, ◌then◌, either, fork}
+use Rattle.grammar.specs.Rules.{Rule, mark, keyword, integer, ◌then◌, either, fork}
 use Rattle.grammar.specs.Sorts.{sort, starts}
 use Rattle.grammar.specs.Trees.{Tree, mark_at, both, left, right, one, other}
 use Rattle.grammar.specs.Reading.{Out, got, wrong, deep, and_then, map_out, IsWord, read_word, plain, read_with, read}
@@ -19,15 +20,35 @@ module _ (n : ℕ) where
   pub read_integer : (ws : List Token) → read n integer ws ≡ read_word integer ws
   read_integer ws = word_is n integer tt ws
 
+  pub read_keyword : (k : Keyword) (ws : List Token) → read n (keyword k) ws ≡ read_word (keyword k) ws
+  read_keyword k ws = word_is n (keyword k) tt ws
+
   pub read_then : (a b : Rule) (ws : List Token) → read n (a then b) ws ≡ and_then (read n a ws) (λ t us. map_out (both t) (read n b us))
   unfolding read read_with
   read_then a b ws = refl
+
+  pub read_either : (a b : Rule) (ws : List Token) → read n (either a b) ws ≡ cond (starts a (sort ws)) (map_out left (read n a ws)) (map_out right (read n b ws))
+  unfolding read read_with
+  read_either a b ws = refl
 
   pub read_fork : (a b : Rule) (ws : List Token) → read n (fork a b) ws ≡ cond (plain ws) (map_out one (read n a ws)) (map_out other (read n b ws))
   unfolding read read_with
   read_fork a b ws = refl
 
-pub ruleset steps = (read_mark, read_integer, read_then, read_fork)
+-- a sign says its place
+pub mark_is : {s : Sign} (t : Tree (mark s)) → mark_at (mark_place t) ≡ t
+mark_is (mark_at p) = refl
+
+pub mark_got : (s : Sign) (ws us : List Token) (t : Tree (mark s)) → read_word (mark s) ws ≡ got t us → t ≡ mark_at (mark_place t)
+mark_got s ws us t e = sym (mark_is t)
+
+pub ruleset steps = (read_mark, read_integer, read_keyword, read_then, read_either, read_fork, mark_got)
+
+-- what is read, and h of it, from what h of the whole comes to
+pub was_read : {A D : Type 0} (o : Out A) (h : A → D) (after : D) (rest : List Token) → map_out h o ≡ got after rest → (t : A) × (o ≡ got t rest) × (after ≡ h t)
+was_read (got t us) h after rest e = (t, cc, cc)
+was_read (wrong us) h after rest e = absurd (cc)
+was_read (deep us) h after rest e = absurd (cc)
 
 -- o is what q comes to, with k made of what is read
 pub record On {A C : Type 0} (o : Out C) (k : A → C) (q : Out A) : Type 0 where
@@ -58,9 +79,6 @@ module _ {A C D V : Type 0} {o : Out C} {k : A → C} {q : Out A} (x : On o k q)
   gave_on f g law (Err e) h = stop_on x e rest h
 
 -- single words
-mark_is : {s : Sign} (t : Tree (mark s)) → mark_at (mark_place t) ≡ t
-mark_is (mark_at p) = refl
-
 module _ (n : ℕ) where
   pub word_got : (r : Rule) → IsWord r → (ws : List Token) (t : Tree r) (us : List Token) → read_word r ws ≡ got t us → read n r ws ≡ got t us
   word_got r w ws t us p = word_is n r w ws ∙ p

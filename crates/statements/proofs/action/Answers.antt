@@ -1,3 +1,6 @@
+use Rattle.std.proofs.Common.{arith}
+use Rattle.std.proofs.lemmas.Grind.{common_steps}
+use Rattle.statements.proofs.Steps.{steps, was_read}
 use Rattle.std.proofs.Common.{refl, sym, ◌∙◌}
 use Rattle.statements.proofs.Steps.{got_on, join, gave_on, on_left, on_right, word_got}
 use Rattle.words.specs.declared.token.Sign.TheVariants.{Semicolon}
@@ -9,14 +12,10 @@ use Rattle.grammar.specs.Rules.{keyword, either, series}
 use Rattle.statements.proofs.action.Goals as goal
 
 pub returns-in_ok-take-clause-told : goal.returns-in_ok-take-clause-told
-returns-in_ok-take-clause-told c =
-    let t = c.in_ok-take.ensures.told in
-    (_, got_on (on_left deepest (keyword Null) (either (keyword DeadEnd) (series stmt Semicolon branch)) c.args.cursor.now (sym c.at.ensures ∙ c.if-at.true)) t.0 _ (word_got _ _ tt _ _ _ t.1), refl)
+returns-in_ok-take-clause-told c = was_read _ _ _ _ (grind (arith, common_steps, steps))
 
 pub returns-in_ok-take-2-clause-told : goal.returns-in_ok-take-2-clause-told
-returns-in_ok-take-2-clause-told c =
-    let t = c.in_ok-take-2.ensures.told in
-    (_, got_on (join (on_right deepest (keyword Null) (either (keyword DeadEnd) (series stmt Semicolon branch)) c.args.cursor.now (sym c.at.ensures ∙ c.if-at.false)) (on_left deepest (keyword DeadEnd) (series stmt Semicolon branch) c.args.cursor.now (sym c.at-else-at.ensures ∙ c.if-at-2.true))) t.0 _ (word_got _ _ tt _ _ _ t.1), refl)
+returns-in_ok-take-2-clause-told c = was_read _ _ _ _ (grind (arith, common_steps, steps))
 
 pub returns-else-at-2-clause-told : goal.returns-else-at-2-clause-told
 returns-else-at-2-clause-told c =

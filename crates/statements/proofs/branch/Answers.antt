@@ -1,3 +1,6 @@
+use Rattle.std.proofs.Common.{arith}
+use Rattle.std.proofs.lemmas.Grind.{common_steps}
+use Rattle.statements.proofs.Steps.{steps, was_read}
 use Rattle.std.proofs.Common.{sym, ap, ◌∙◌}
 use Rattle.statements.proofs.Steps.{got_on, join, gave_on, on_part, on_sign, on_one, on_other, sign_got}
 use Rattle.grammar.specs.declared.draft.Leaving.TheVariants.{Plain}
@@ -8,9 +11,7 @@ use Rattle.statements.proofs.Parts.{conditions_are}
 use Rattle.statements.proofs.branch.Goals as goal
 
 pub returns-in_ok-take-3-clause-told : goal.returns-in_ok-take-3-clause-told
-returns-in_ok-take-3-clause-told c =
-    let v = c.in_ok-exits.ensures.told in
-    (_, got_on (join (join (join (on_sign _ _ _ _ _ _ c.in_ok-take.ensures.told) (on_sign _ _ _ _ _ _ c.in_ok-take-2.ensures.told)) (on_one _ _ _ _ (sym c.at_list.ensures ∙ c.if-at_list.true))) (on_part _ _ _ _ v.0 _ v.1)) (mark_at _) _ (sign_got _ _ _ _ _ c.in_ok-take-3.ensures.told), ap (λ d. (Plain, d)) v.2)
+returns-in_ok-take-3-clause-told c = was_read _ _ _ _ (grind (arith, common_steps, steps))
 
 pub returns-else-at_list-clause-told : goal.returns-else-at_list-clause-told
 returns-else-at_list-clause-told c =
