@@ -44,7 +44,7 @@ pub fn step(cursor: &mut Cursor<'_>, rows: &mut Rows) -> Result<(), Stop>
 }
 
 // Reads a target of the statement that comes next, and answers the place of its name.
-fn target(cursor: &mut Cursor<'_>, rows: &mut Rows, comma: Option<usize>) -> Result<usize, Stop>
+fn one_target(cursor: &mut Cursor<'_>, rows: &mut Rows, comma: Option<usize>) -> Result<usize, Stop>
     ensures told { Gave (read deepest ref cursor.old) (λ r d. ((ref_of r).name.place, with_target d (target_at d comma r))) (row_lists rows.old) result cursor.new (row_lists rows.new) }
     ensures forward { OnOk result (length cursor.new < length cursor.old) }
 {
@@ -63,7 +63,7 @@ fn next_target(cursor: &mut Cursor<'_>, rows: &mut Rows) -> Result<(), Stop>
     ensures forward { OnOk result (length cursor.new < length cursor.old) }
 {
     let comma = cursor.take(Sign::Comma)?;
-    target(cursor, rows, Some(comma))?;
+    one_target(cursor, rows, Some(comma))?;
     Ok(())
 }
 
@@ -72,7 +72,7 @@ fn targets(cursor: &mut Cursor<'_>, rows: &mut Rows) -> Result<usize, Stop>
     ensures told { Gave (read deepest targets_rule cursor.old) (λ ts d. (targets_place ts, target_rows ts d)) (row_lists rows.old) result cursor.new (row_lists rows.new) }
     ensures forward { OnOk result (length cursor.new < length cursor.old) }
 {
-    let place = target(cursor, rows, None)?;
+    let place = one_target(cursor, rows, None)?;
     'more: while cursor.at(Sign::Comma) {
         next_target(cursor, rows)?;
     }
