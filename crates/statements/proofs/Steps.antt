@@ -80,10 +80,7 @@ module _ {A C D V : Type 0} {o : Out C} {k : A → C} {q : Out A} (x : On o k q)
 
 -- single words
 module _ (n : ℕ) where
-  pub word_got : (r : Rule) → IsWord r → (ws : List Token) (t : Tree r) (us : List Token) → read_word r ws ≡ got t us → read n r ws ≡ got t us
-  word_got r w ws t us p = word_is n r w ws ∙ p
-
-  pub sign_got : (s : Sign) (ws : List Token) (p : ℕ) (us : List Token) → Told (read_word (mark s) ws) mark_place (Ok p) us → read n (mark s) ws ≡ got (mark_at p) us
+  sign_got : (s : Sign) (ws : List Token) (p : ℕ) (us : List Token) → Told (read_word (mark s) ws) mark_place (Ok p) us → read n (mark s) ws ≡ got (mark_at p) us
   sign_got s ws p us (t, q, e) = word_is n (mark s) tt ws ∙ (q ∙ ap (λ u. got u us) (sym (mark_is t) ∙ ap mark_at (sym e)))
 
   -- behind the first part, and where the next words tell which way to go
@@ -99,10 +96,6 @@ module _ (n : ℕ) where
     pub on_right : starts a (sort ws) ≡ false → On (read n (either a b) ws) right (read n b ws)
     unfolding read read_with
     on_right s = record { is = cond-false _ _ _ s }
-
-    pub on_one : plain ws ≡ true → On (read n (fork a b) ws) one (read n a ws)
-    unfolding read read_with
-    on_one s = record { is = cond-true _ _ _ s }
 
     pub on_other : plain ws ≡ false → On (read n (fork a b) ws) other (read n b ws)
     unfolding read read_with

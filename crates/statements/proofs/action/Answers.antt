@@ -1,14 +1,11 @@
-use Rattle.std.proofs.Common.{arith}
+use Rattle.std.proofs.Common.{arith, refl, sym, ◌∙◌}
 use Rattle.std.proofs.lemmas.Grind.{common_steps}
-use Rattle.statements.proofs.Steps.{steps, was_read}
-use Rattle.std.proofs.Common.{refl, sym, ◌∙◌}
-use Rattle.statements.proofs.Steps.{got_on, join, gave_on, on_left, on_right, word_got}
 use Rattle.words.specs.declared.token.Sign.TheVariants.{Semicolon}
-use Rattle.grammar.specs.Rules.{stmt, branch}
+use Rattle.words.specs.declared.token.Keyword.TheVariants.{Null, DeadEnd}
+use Rattle.grammar.specs.Rules.{stmt, branch, keyword, either, series}
 use Rattle.grammar.specs.Promise.{deepest}
 use Rattle.grammar.specs.Drafts.{row_lists, series_rows, action_rows}
-use Rattle.words.specs.declared.token.Keyword.TheVariants.{Null, DeadEnd}
-use Rattle.grammar.specs.Rules.{keyword, either, series}
+use Rattle.statements.proofs.Steps.{steps, was_read, got_on, join, gave_on, on_left, on_right, word_got}
 use Rattle.statements.proofs.action.Goals as goal
 
 pub returns-in_ok-take-clause-told : goal.returns-in_ok-take-clause-told

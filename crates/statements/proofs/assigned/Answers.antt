@@ -1,6 +1,6 @@
 use Rattle.std.proofs.Common.{refl}
-use Rattle.statements.proofs.Steps.{wrote_on, on_sign}
 use Rattle.grammar.specs.Drafts.{row_lists, head_at, value_rows}
+use Rattle.statements.proofs.Steps.{wrote_on, on_sign}
 use Rattle.statements.specs.Parts.{assigned_rows}
 use Rattle.statements.proofs.assigned.Goals as goal
 

@@ -1,7 +1,7 @@
 use Rattle.std.proofs.Common.{refl, Some, None}
-use Rattle.statements.proofs.Steps.{join, wrote_on, at_sign, not_at_sign}
 use Rattle.grammar.specs.declared.draft.StatementKind.TheVariants.{Connection, Transfer}
 use Rattle.grammar.specs.Drafts.{row_lists}
+use Rattle.statements.proofs.Steps.{join, wrote_on, at_sign, not_at_sign}
 use Rattle.statements.specs.Parts.{assigned_rows, conditional_rows, assignment_rows}
 use Rattle.statements.proofs.assignment.Goals as goal
 

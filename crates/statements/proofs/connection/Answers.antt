@@ -1,7 +1,7 @@
 use Rattle.std.proofs.Common.{sym, ap, ◌∙◌, None}
-use Rattle.statements.proofs.Steps.{wrote_on, on_part}
 use Rattle.grammar.specs.declared.draft.StatementKind.TheVariants.{Connection}
 use Rattle.grammar.specs.Drafts.{row_lists, conn_rows}
+use Rattle.statements.proofs.Steps.{wrote_on, on_part}
 use Rattle.statements.specs.Parts.{assigned_rows}
 use Rattle.statements.proofs.Parts.{conn_are}
 use Rattle.statements.proofs.connection.Goals as goal

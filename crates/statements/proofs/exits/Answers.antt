@@ -1,12 +1,12 @@
 use Rattle.std.proofs.Common.{refl, ap, ◌∙◌, arith}
 use Rattle.std.proofs.lemmas.Result.{err_from_is_err_and}
-use Rattle.statements.proofs.Steps.{got_on, stop_on, on_part}
 use Rattle.words.specs.declared.token.Sign.TheVariants.{Comma}
 use Rattle.grammar.specs.Rules.{mark, integer, many, ◌then◌}
 use Rattle.grammar.specs.Trees.{both}
 use Rattle.grammar.specs.Promise.{deepest}
 use Rattle.grammar.specs.Drafts.{row_lists}
 use Rattle.cursor.proofs.Steps.{goes_start}
+use Rattle.statements.proofs.Steps.{got_on, stop_on, on_part}
 use Rattle.statements.specs.Parts.{next_exit_rows}
 use Rattle.statements.proofs.Lists.{commas_turn, commas_end, commas_stop, more_exits, exits_are}
 use Rattle.statements.proofs.exits.Goals as goal

@@ -1,6 +1,6 @@
 use Rattle.std.proofs.Common.{refl, Some}
-use Rattle.statements.proofs.Steps.{wrote_on, on_sign}
 use Rattle.grammar.specs.Drafts.{row_lists}
+use Rattle.statements.proofs.Steps.{wrote_on, on_sign}
 use Rattle.statements.specs.Parts.{one_exit, next_exit_rows}
 use Rattle.statements.proofs.next_exit.Goals as goal
 

@@ -1,9 +1,9 @@
 use Rattle.std.proofs.Common.{sym, ◌∙◌, arith}
 use Rattle.std.proofs.lemmas.Result.{err_from_is_err_and}
-use Rattle.statements.proofs.Steps.{gave_on}
 use Rattle.grammar.specs.Promise.{deepest}
 use Rattle.grammar.specs.Drafts.{row_lists, branch_rows, series_rows}
 use Rattle.grammar.specs.Trees.{closing}
+use Rattle.statements.proofs.Steps.{gave_on}
 use Rattle.statements.proofs.Turns.{turns_start, turns_stop, turns_last, turns_turn, turns_branch}
 use Rattle.statements.proofs.series.Goals as goal
 

@@ -1,6 +1,6 @@
 use Rattle.std.proofs.Common.{sym, ap, ◌∙◌}
-use Rattle.statements.proofs.Steps.{wrote_on, on_part}
 use Rattle.grammar.specs.Drafts.{row_lists, stmt_rows}
+use Rattle.statements.proofs.Steps.{wrote_on, on_part}
 use Rattle.statements.specs.Parts.{assignment_rows}
 use Rattle.statements.proofs.Parts.{stmt_are}
 use Rattle.statements.proofs.statement.Goals as goal
