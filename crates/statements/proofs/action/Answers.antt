@@ -5,7 +5,7 @@ use Rattle.words.specs.declared.token.Keyword.TheVariants.{Null, DeadEnd}
 use Rattle.grammar.specs.Rules.{stmt, branch, keyword, either, series}
 use Rattle.grammar.specs.Promise.{deepest}
 use Rattle.grammar.specs.Drafts.{row_lists, series_rows, action_rows}
-use Rattle.statements.proofs.Steps.{steps, was_read, got_on, join, gave_on, on_left, on_right, word_got}
+use Rattle.statements.proofs.Steps.{steps, was_read, join, gave_on, on_right}
 use Rattle.statements.proofs.action.Goals as goal
 
 pub returns-in_ok-take-clause-told : goal.returns-in_ok-take-clause-told

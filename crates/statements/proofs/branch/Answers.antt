@@ -1,9 +1,8 @@
-use Rattle.std.proofs.Common.{arith, sym, ap, ◌∙◌}
+use Rattle.std.proofs.Common.{arith, sym, ◌∙◌}
 use Rattle.std.proofs.lemmas.Grind.{common_steps}
-use Rattle.grammar.specs.declared.draft.Leaving.TheVariants.{Plain}
 use Rattle.grammar.specs.Trees.{mark_at}
 use Rattle.grammar.specs.Drafts.{row_lists, branch_rows}
-use Rattle.statements.proofs.Steps.{steps, was_read, got_on, join, gave_on, on_part, on_sign, on_one, on_other, sign_got}
+use Rattle.statements.proofs.Steps.{steps, was_read, join, gave_on, on_sign, on_other}
 use Rattle.statements.specs.Parts.{condition_branch_rows}
 use Rattle.statements.proofs.Parts.{conditions_are}
 use Rattle.statements.proofs.branch.Goals as goal

@@ -1,8 +1,5 @@
-use Rattle.std.proofs.Common.{ℕ, sym, ap, Some}
-use Rattle.words.specs.declared.token.Sign.TheVariants.{Transfer as TransferSign}
-use Rattle.grammar.specs.Rules.{mark, ◌then◌, expr}
-use Rattle.grammar.specs.Trees.{Tree}
-use Rattle.grammar.specs.Drafts.{RowLists, row_lists}
+use Rattle.std.proofs.Common.{sym, ap, Some}
+use Rattle.grammar.specs.Drafts.{row_lists}
 use Rattle.grammar.specs.declared.draft.StatementKind.TheVariants.{Transfer}
 use Rattle.statements.proofs.Steps.{join, wrote_on, on_part, on_sign}
 use Rattle.statements.specs.Parts.{assigned_rows, conditional_rows}
