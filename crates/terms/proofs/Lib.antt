@@ -3,3 +3,4 @@ pub mod Subscripts
 pub mod Terms
 pub mod Levels
 pub mod Primaries
+mod Room

@@ -1,11 +1,12 @@
 //! Expressions. `left` is how many nestings may still be opened.
-ghost use Rattle.std.specs.Prelude.{◌≡◌, ℕ, ◌+◌, ◌<◌, length, OnOk, MatchResult};
+ghost use Rattle.std.specs.Prelude.{◌≡◌, ℕ, ◌+◌, ◌<◌, length, IfErr, OnOk, MatchResult};
 ghost use Rattle.grammar.specs.Rules.{group as group_part, signed, part, ref, primary as primary_rule, prefix_sign as prefix_sign_rule, prefix as prefix_rule, and as and_rule, xor as xor_rule, or as or_rule, expr as expr_rule};
 ghost use Rattle.grammar.specs.Sorts.{sort, opens};
 ghost use Rattle.grammar.specs.Reading.{read};
 ghost use Rattle.grammar.specs.Promise.{deepest};
 ghost use Rattle.grammar.specs.Drafts.{term_lists, root as root_row, with_node, node_at, primary_rows, prefix_rows, and_rows, xor_rows, or_rows, expr_rows};
-ghost use Rattle.cursor.specs.Told.{Told, Wrote};
+ghost use Rattle.grammar.specs.Room.{TermsRoom, TermsReserved};
+ghost use Rattle.cursor.specs.Told.{Told, Wrote, RoomLeft};
 ghost use Rattle.cursor.specs.declared.stop.Stop.TheVariants.{TooDeep, OutOfMemory};
 ghost use Rattle.terms.specs.Expressions.{bits_rows, string_rule, string_rows, sized_rule, sized_rows, group_rows, sign_of, form_of};
 
@@ -27,6 +28,7 @@ pub fn expression(
 ) -> Result<(), Stop>
     ensures told { Wrote (read deepest expr_rule cursor.old) (λ t. expr_rows t driven) (term_lists terms.old) result cursor.new (term_lists terms.new) }
     ensures forward { OnOk result (length cursor.new < length cursor.old) }
+    ensures room { (limit slack : ℕ) → TermsRoom limit (length cursor.old + slack) terms.old → RoomLeft result (TermsRoom limit (length cursor.new + slack) terms.new) (TermsReserved limit terms.new) }
 {
     expr(cursor, terms, driven, DEEPEST)
 }
@@ -41,6 +43,7 @@ fn expr(
 ) -> Result<(), Stop>
     ensures told { Wrote (read left expr_rule cursor.old) (λ t. expr_rows t driven) (term_lists terms.old) result cursor.new (term_lists terms.new) }
     ensures forward { OnOk result (length cursor.new < length cursor.old) }
+    ensures room { (limit slack : ℕ) → TermsRoom limit (length cursor.old + slack) terms.old → RoomLeft result (TermsRoom limit (length cursor.new + slack) terms.new) (TermsReserved limit terms.new) }
 {
     or(cursor, terms, driven, left)?;
     while let Ok(place) = cursor.take(Sign::Comma) {
@@ -62,6 +65,7 @@ fn or(
 ) -> Result<(), Stop>
     ensures told { Wrote (read left or_rule cursor.old) (λ t. or_rows t driven) (term_lists terms.old) result cursor.new (term_lists terms.new) }
     ensures forward { OnOk result (length cursor.new < length cursor.old) }
+    ensures room { (limit slack : ℕ) → TermsRoom limit (length cursor.old + slack) terms.old → RoomLeft result (TermsRoom limit (length cursor.new + slack) terms.new) (TermsReserved limit terms.new) }
 {
     xor(cursor, terms, driven, left)?;
     while let Ok(place) = cursor.take(Sign::Or) {
@@ -83,6 +87,7 @@ fn xor(
 ) -> Result<(), Stop>
     ensures told { Wrote (read left xor_rule cursor.old) (λ t. xor_rows t driven) (term_lists terms.old) result cursor.new (term_lists terms.new) }
     ensures forward { OnOk result (length cursor.new < length cursor.old) }
+    ensures room { (limit slack : ℕ) → TermsRoom limit (length cursor.old + slack) terms.old → RoomLeft result (TermsRoom limit (length cursor.new + slack) terms.new) (TermsReserved limit terms.new) }
 {
     and(cursor, terms, driven, left)?;
     while let Ok(place) = cursor.take(Sign::Xor) {
@@ -104,6 +109,7 @@ fn and(
 ) -> Result<(), Stop>
     ensures told { Wrote (read left and_rule cursor.old) (λ t. and_rows t driven) (term_lists terms.old) result cursor.new (term_lists terms.new) }
     ensures forward { OnOk result (length cursor.new < length cursor.old) }
+    ensures room { (limit slack : ℕ) → TermsRoom limit (length cursor.old + slack) terms.old → RoomLeft result (TermsRoom limit (length cursor.new + slack) terms.new) (TermsReserved limit terms.new) }
 {
     prefix(cursor, terms, driven, left)?;
     while let Ok(place) = cursor.take(Sign::And) {
@@ -125,6 +131,7 @@ fn prefix(
 ) -> Result<(), Stop>
     ensures told { Wrote (read left prefix_rule cursor.old) (λ t. prefix_rows t driven) (term_lists terms.old) result cursor.new (term_lists terms.new) }
     ensures forward { OnOk result (length cursor.new < length cursor.old) }
+    ensures room { (limit slack : ℕ) → TermsRoom limit (length cursor.old + slack) terms.old → RoomLeft result (TermsRoom limit (length cursor.new + slack) terms.new) (TermsReserved limit terms.new) }
 {
     if !at_prefix_sign(cursor) {
         return primary(cursor, terms, driven, left);
@@ -146,6 +153,7 @@ fn primary(
 ) -> Result<(), Stop>
     ensures told { Wrote (read left primary_rule cursor.old) (λ t. primary_rows t driven) (term_lists terms.old) result cursor.new (term_lists terms.new) }
     ensures forward { OnOk result (length cursor.new < length cursor.old) }
+    ensures room { (limit slack : ℕ) → TermsRoom limit (length cursor.old + slack) terms.old → RoomLeft result (TermsRoom limit (length cursor.new + slack) terms.new) (TermsReserved limit terms.new) }
 {
     if cursor.at(AnyName) {
         return bits(cursor, terms, driven);
@@ -169,6 +177,7 @@ fn group(
 ) -> Result<(), Stop>
     ensures told { Wrote (read left (part group_part) cursor.old) (λ t. group_rows t driven) (term_lists terms.old) result cursor.new (term_lists terms.new) }
     ensures forward { OnOk result (length cursor.new < length cursor.old) }
+    ensures room { (limit slack : ℕ) → TermsRoom limit (length cursor.old + slack) terms.old → RoomLeft result (TermsRoom limit (length cursor.new + slack) terms.new) (TermsReserved limit terms.new) }
 {
     if !cursor.at(Sign::LeftParen) {
         return Err(Stop::Unexpected);
@@ -220,6 +229,7 @@ fn at_prefix_sign(cursor: &Cursor<'_>) -> bool
 fn prefix_sign(cursor: &mut Cursor<'_>) -> Result<PrefixSign, Stop>
     ensures told { (n : ℕ) → Told (read n prefix_sign_rule cursor.old) sign_of result cursor.new }
     ensures forward { OnOk result (length cursor.new < length cursor.old) }
+    ensures stops { IfErr result (λ e. e ≡ Stop.Unexpected) }
 {
     if let Ok(place) = cursor.take(Sign::Not) {
         return Ok(PrefixSign { place, gate: None });
@@ -241,6 +251,7 @@ fn prefix_sign(cursor: &mut Cursor<'_>) -> Result<PrefixSign, Stop>
 fn bits(cursor: &mut Cursor<'_>, terms: &mut Terms, driven: Option<usize>) -> Result<(), Stop>
     ensures told { (n : ℕ) → Wrote (read n ref cursor.old) (λ r. bits_rows r driven) (term_lists terms.old) result cursor.new (term_lists terms.new) }
     ensures forward { OnOk result (length cursor.new < length cursor.old) }
+    ensures room { (limit slack : ℕ) → TermsRoom limit (length cursor.old + slack) terms.old → RoomLeft result (TermsRoom limit (length cursor.new + slack) terms.new) (TermsReserved limit terms.new) }
 {
     let reference = reference(cursor)?;
     let place = reference.name.place;
@@ -251,6 +262,7 @@ fn bits(cursor: &mut Cursor<'_>, terms: &mut Terms, driven: Option<usize>) -> Re
 fn bit_string(cursor: &mut Cursor<'_>, terms: &mut Terms, driven: Option<usize>) -> Result<(), Stop>
     ensures told { (n : ℕ) → Wrote (read n string_rule cursor.old) (λ s. string_rows s driven) (term_lists terms.old) result cursor.new (term_lists terms.new) }
     ensures forward { OnOk result (length cursor.new < length cursor.old) }
+    ensures room { (limit slack : ℕ) → TermsRoom limit (length cursor.old + slack) terms.old → RoomLeft result (TermsRoom limit (length cursor.new + slack) terms.new) (TermsReserved limit terms.new) }
 {
     let place = cursor.take(Sign::Backslash)?;
     integers(cursor, &mut terms.digits)?;
@@ -263,6 +275,7 @@ fn bit_string(cursor: &mut Cursor<'_>, terms: &mut Terms, driven: Option<usize>)
 fn sized(cursor: &mut Cursor<'_>, terms: &mut Terms, driven: Option<usize>) -> Result<(), Stop>
     ensures told { (n : ℕ) → Wrote (read n sized_rule cursor.old) (λ c. sized_rows c driven) (term_lists terms.old) result cursor.new (term_lists terms.new) }
     ensures forward { OnOk result (length cursor.new < length cursor.old) }
+    ensures room { (limit slack : ℕ) → TermsRoom limit (length cursor.old + slack) terms.old → RoomLeft result (TermsRoom limit (length cursor.new + slack) terms.new) (TermsReserved limit terms.new) }
 {
     let first = cursor.take(AnyInteger)?;
     cursor.take(Sign::Dollar)?;
@@ -279,7 +292,8 @@ fn root(terms: &Terms) -> usize
 
 // Puts a node behind those that stand already.
 fn push(terms: &mut Terms, place: usize, driven: Option<usize>, form: Form) -> Result<(), Stop>
-    ensures { MatchResult result (λ _. term_lists terms.new ≡ with_node (term_lists terms.old) (node_at place driven form)) (λ e. e ≡ OutOfMemory) }
+    ensures pushed { MatchResult result (λ _. term_lists terms.new ≡ with_node (term_lists terms.old) (node_at place driven form)) (λ e. e ≡ OutOfMemory) }
+    ensures room { (limit more : ℕ) → TermsRoom limit (more + 1) terms.old → RoomLeft result (TermsRoom limit more terms.new) (TermsReserved limit terms.new) }
 {
     terms.nodes.push(Node {
         place,

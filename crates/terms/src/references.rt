@@ -1,5 +1,5 @@
 //! References: names with or without a subscript.
-ghost use Rattle.std.specs.Prelude.{◌≡◌, ℕ, ◌<◌, ◌≤◌, length, OnOk};
+ghost use Rattle.std.specs.Prelude.{◌≡◌, ℕ, ◌<◌, ◌≤◌, length, IfErr, OnOk};
 ghost use Rattle.words.specs.declared.token.Sign.TheVariants.{Colon};
 ghost use Rattle.grammar.specs.Rules.{mark, integer as integer_rule, ◌then◌, maybe, ref};
 ghost use Rattle.grammar.specs.Reading.{read};
@@ -15,6 +15,7 @@ use words::Sign;
 pub fn reference(cursor: &mut Cursor<'_>) -> Result<Reference, Stop>
     ensures told { (n : ℕ) → Told (read n ref cursor.old) ref_of result cursor.new }
     ensures forward { OnOk result (length cursor.new < length cursor.old) }
+    ensures stops { IfErr result (λ e. e ≡ Stop.Unexpected) }
 {
     let name = cursor.take(AnyName)?;
     let subscript = optional_subscript(cursor)?;
@@ -25,6 +26,7 @@ pub fn reference(cursor: &mut Cursor<'_>) -> Result<Reference, Stop>
 fn optional_subscript(cursor: &mut Cursor<'_>) -> Result<Option<Subscript>, Stop>
     ensures told { (n : ℕ) → Told (read n (maybe subscript_rule) cursor.old) maybe_subscript result cursor.new }
     ensures forward { OnOk result (length cursor.new ≤ length cursor.old) }
+    ensures stops { IfErr result (λ e. e ≡ Stop.Unexpected) }
 {
     if !cursor.at(Sign::LeftBracket) {
         return Ok(None);
@@ -36,6 +38,7 @@ fn optional_subscript(cursor: &mut Cursor<'_>) -> Result<Option<Subscript>, Stop
 fn subscript(cursor: &mut Cursor<'_>) -> Result<Subscript, Stop>
     ensures told { (n : ℕ) → Told (read n subscript_rule cursor.old) subscript_of result cursor.new }
     ensures forward { OnOk result (length cursor.new < length cursor.old) }
+    ensures stops { IfErr result (λ e. e ≡ Stop.Unexpected) }
 {
     let place = cursor.take(Sign::LeftBracket)?;
     let first = cursor.take(AnyInteger)?.value;
@@ -48,6 +51,7 @@ fn subscript(cursor: &mut Cursor<'_>) -> Result<Subscript, Stop>
 fn last(cursor: &mut Cursor<'_>, first: u16) -> Result<u16, Stop>
     ensures told { (n : ℕ) → Told (read n (maybe (mark Colon then integer_rule)) cursor.old) (λ q. last_of q first) result cursor.new }
     ensures forward { OnOk result (length cursor.new ≤ length cursor.old) }
+    ensures stops { IfErr result (λ e. e ≡ Stop.Unexpected) }
 {
     if !cursor.at(Sign::Colon) {
         return Ok(first);

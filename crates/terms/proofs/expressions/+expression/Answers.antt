@@ -1,4 +1,4 @@
-use Rattle.std.proofs.Common.{sym, arith}
+use Rattle.std.proofs.Common.{◌+◌, length, ap, sym, arith}
 use Rattle.std.proofs.lemmas.Result.{err_from_is_err_and}
 use Rattle.words.specs.declared.token.Sign.TheVariants.{Comma, LeftParen, RightParen, And, Or, Xor}
 use Rattle.grammar.specs.Rules.{group, signed, mark, ◌then◌, many, part, primary, prefix_sign, prefix, and, xor, or, expr}
@@ -7,6 +7,7 @@ use Rattle.grammar.specs.Reading.{read}
 use Rattle.grammar.specs.Drafts.{term_lists, prefix_rows}
 use Rattle.cursor.proofs.Steps.{then_got, then_stop, then_stop_second, left_got, left_stop, part_wrong}
 use Rattle.cursor.proofs.MoreSteps.{word_got, word_stop, wrote_last, wrote_right, nested_got, nested_stop, nested_deep}
+use Rattle.terms.proofs.Room.{room_less}
 use Rattle.terms.proofs.Terms.{under_is}
 use Rattle.terms.proofs.Levels.{commas, ors, xors, ands, along_start, along_turn, along_stop, along_end}
 use Rattle.terms.proofs.Primaries.{wrote_bits, wrote_string, wrote_sized, wrote_group}
@@ -19,7 +20,7 @@ expr-returns-in_err-or-clause-told t c =
 
 pub expr-loop-place-init : goal.expr-loop-place-init
 expr-loop-place-init t c =
-    record { goes = along_start commas c.args.left c.args.driven _ (term_lists c.or.new.terms); behind = omega arith }
+    record { goes = along_start commas c.args.left c.args.driven _ (term_lists c.or.new.terms); behind = omega arith; room = λ limit slack r. r }
 
 pub expr-returns-in_err-or-2-clause-told : goal.expr-returns-in_err-or-2-clause-told
 expr-returns-in_err-or-2-clause-told t c =
@@ -31,8 +32,11 @@ expr-loop-place-preserved t c =
     let m = c.in-Ok.ensures in
     let a = c.in_ok-or-2.ensures in
     record {
-      goes = along_turn commas c.args.left c.args.driven _ _ (term_lists c.or.new.terms) (term_lists c.loop-place.terms) c.loop-place.invariant.goes _ _ m.told _ (term_lists c.or-in-Ok.new.terms) a.told a.forward _ _ c.root-first.ensures c.root-second.ensures (term_lists c.push.new.terms) c.in_ok-push.ensures;
+      goes = along_turn commas c.args.left c.args.driven _ _ (term_lists c.or.new.terms) (term_lists c.loop-place.terms) c.loop-place.invariant.goes _ _ m.told _ (term_lists c.or-in-Ok.new.terms) a.told a.forward _ _ c.root-first.ensures c.root-second.ensures (term_lists c.push.new.terms) c.in_ok-push.ensures.pushed;
       behind = omega (arith, m.forward, a.forward, c.loop-place.invariant.behind);
+      room = λ limit slack r.
+          let spare = room_less limit _ (length c.take.new.self + (slack + 1)) _ (omega (arith, m.forward)) (c.loop-place.invariant.room limit slack r) in
+          c.in_ok-push.ensures.room limit _ (room_less limit _ _ _ (omega arith) (a.room limit (slack + 1) spare));
     }
 
 pub expr-returns-clause-told : goal.expr-returns-clause-told
@@ -47,7 +51,7 @@ or-returns-in_err-xor-clause-told t c =
 
 pub or-loop-place-init : goal.or-loop-place-init
 or-loop-place-init t c =
-    record { goes = along_start ors c.args.left c.args.driven _ (term_lists c.xor.new.terms); behind = omega arith }
+    record { goes = along_start ors c.args.left c.args.driven _ (term_lists c.xor.new.terms); behind = omega arith; room = λ limit slack r. r }
 
 pub or-returns-in_err-xor-2-clause-told : goal.or-returns-in_err-xor-2-clause-told
 or-returns-in_err-xor-2-clause-told t c =
@@ -59,8 +63,11 @@ or-loop-place-preserved t c =
     let m = c.in-Ok.ensures in
     let a = c.in_ok-xor-2.ensures in
     record {
-      goes = along_turn ors c.args.left c.args.driven _ _ (term_lists c.xor.new.terms) (term_lists c.loop-place.terms) c.loop-place.invariant.goes _ _ m.told _ (term_lists c.xor-in-Ok.new.terms) a.told a.forward _ _ c.root-first.ensures c.root-second.ensures (term_lists c.push.new.terms) c.in_ok-push.ensures;
+      goes = along_turn ors c.args.left c.args.driven _ _ (term_lists c.xor.new.terms) (term_lists c.loop-place.terms) c.loop-place.invariant.goes _ _ m.told _ (term_lists c.xor-in-Ok.new.terms) a.told a.forward _ _ c.root-first.ensures c.root-second.ensures (term_lists c.push.new.terms) c.in_ok-push.ensures.pushed;
       behind = omega (arith, m.forward, a.forward, c.loop-place.invariant.behind);
+      room = λ limit slack r.
+          let spare = room_less limit _ (length c.take.new.self + (slack + 1)) _ (omega (arith, m.forward)) (c.loop-place.invariant.room limit slack r) in
+          c.in_ok-push.ensures.room limit _ (room_less limit _ _ _ (omega arith) (a.room limit (slack + 1) spare));
     }
 
 pub or-returns-clause-told : goal.or-returns-clause-told
@@ -75,7 +82,7 @@ xor-returns-in_err-and-clause-told t c =
 
 pub xor-loop-place-init : goal.xor-loop-place-init
 xor-loop-place-init t c =
-    record { goes = along_start xors c.args.left c.args.driven _ (term_lists c.and.new.terms); behind = omega arith }
+    record { goes = along_start xors c.args.left c.args.driven _ (term_lists c.and.new.terms); behind = omega arith; room = λ limit slack r. r }
 
 pub xor-returns-in_err-and-2-clause-told : goal.xor-returns-in_err-and-2-clause-told
 xor-returns-in_err-and-2-clause-told t c =
@@ -87,8 +94,11 @@ xor-loop-place-preserved t c =
     let m = c.in-Ok.ensures in
     let a = c.in_ok-and-2.ensures in
     record {
-      goes = along_turn xors c.args.left c.args.driven _ _ (term_lists c.and.new.terms) (term_lists c.loop-place.terms) c.loop-place.invariant.goes _ _ m.told _ (term_lists c.and-in-Ok.new.terms) a.told a.forward _ _ c.root-first.ensures c.root-second.ensures (term_lists c.push.new.terms) c.in_ok-push.ensures;
+      goes = along_turn xors c.args.left c.args.driven _ _ (term_lists c.and.new.terms) (term_lists c.loop-place.terms) c.loop-place.invariant.goes _ _ m.told _ (term_lists c.and-in-Ok.new.terms) a.told a.forward _ _ c.root-first.ensures c.root-second.ensures (term_lists c.push.new.terms) c.in_ok-push.ensures.pushed;
       behind = omega (arith, m.forward, a.forward, c.loop-place.invariant.behind);
+      room = λ limit slack r.
+          let spare = room_less limit _ (length c.take.new.self + (slack + 1)) _ (omega (arith, m.forward)) (c.loop-place.invariant.room limit slack r) in
+          c.in_ok-push.ensures.room limit _ (room_less limit _ _ _ (omega arith) (a.room limit (slack + 1) spare));
     }
 
 pub xor-returns-clause-told : goal.xor-returns-clause-told
@@ -103,7 +113,7 @@ and-returns-in_err-prefix-clause-told t c =
 
 pub and-loop-place-init : goal.and-loop-place-init
 and-loop-place-init t c =
-    record { goes = along_start ands c.args.left c.args.driven _ (term_lists c.prefix.new.terms); behind = omega arith }
+    record { goes = along_start ands c.args.left c.args.driven _ (term_lists c.prefix.new.terms); behind = omega arith; room = λ limit slack r. r }
 
 pub and-returns-in_err-prefix-2-clause-told : goal.and-returns-in_err-prefix-2-clause-told
 and-returns-in_err-prefix-2-clause-told t c =
@@ -115,8 +125,11 @@ and-loop-place-preserved t c =
     let m = c.in-Ok.ensures in
     let a = c.in_ok-prefix-2.ensures in
     record {
-      goes = along_turn ands c.args.left c.args.driven _ _ (term_lists c.prefix.new.terms) (term_lists c.loop-place.terms) c.loop-place.invariant.goes _ _ m.told _ (term_lists c.prefix-in-Ok.new.terms) a.told a.forward _ _ c.root-first.ensures c.root-second.ensures (term_lists c.push.new.terms) c.in_ok-push.ensures;
+      goes = along_turn ands c.args.left c.args.driven _ _ (term_lists c.prefix.new.terms) (term_lists c.loop-place.terms) c.loop-place.invariant.goes _ _ m.told _ (term_lists c.prefix-in-Ok.new.terms) a.told a.forward _ _ c.root-first.ensures c.root-second.ensures (term_lists c.push.new.terms) c.in_ok-push.ensures.pushed;
       behind = omega (arith, m.forward, a.forward, c.loop-place.invariant.behind);
+      room = λ limit slack r.
+          let spare = room_less limit _ (length c.take.new.self + (slack + 1)) _ (omega (arith, m.forward)) (c.loop-place.invariant.room limit slack r) in
+          c.in_ok-push.ensures.room limit _ (room_less limit _ _ _ (omega arith) (a.room limit (slack + 1) spare));
     }
 
 pub and-returns-clause-told : goal.and-returns-clause-told
@@ -196,7 +209,7 @@ prefix-returns-clause-told t c =
     let reads = left_got c.args.left (part signed) primary _ (sym c.if-not-at_prefix_sign.ensures) _ _ (nested_got signed _ _ (sym c.if-not-at_prefix_sign.ensures) c.in_ok-inner.inner c.in_ok-inner.ensures _ _ (then_got c.in_ok-inner.inner prefix_sign prefix _ _ _ _ _ s.1 a.1)) in
     wrote_last (read c.args.left prefix c.args.cursor.now) (λ t. prefix_rows t c.args.driven) before _ _
     (λ h. (left (nested signed (both s.0 a.0)), reads, under_is s.0 c.args.driven _ s.2 _ _ (term_lists c.prefix.new.terms) (prefix_rows a.0 c.args.driven before) _ c.form.ensures c.root-operand.ensures a.2 h))
-    _ c.push.ensures
+    _ c.push.ensures.pushed
 
 pub primary-returns-then-at-clause-told : goal.primary-returns-then-at-clause-told
 primary-returns-then-at-clause-told t c =
@@ -213,3 +226,85 @@ primary-returns-then-at-3-clause-told t c =
 pub primary-returns-clause-told : goal.primary-returns-clause-told
 primary-returns-clause-told t c =
     wrote_group c.args.left c.args.driven _ (term_lists c.args.terms.now) _ _ _ c.if-at.ensures c.if-at-2.ensures c.if-at-3.ensures c.group.ensures.told
+
+pub expr-returns-in_err-or-2-clause-room : goal.expr-returns-in_err-or-2-clause-room
+expr-returns-in_err-or-2-clause-room t c = λ limit slack r.
+    let p = err_from_is_err_and c.from_residual-in_err-or-2.result c.from_residual-in_err-or-2.ensures.1 in
+    let now = c.loop-place.invariant.room limit slack (c.in_ok-or.ensures.room limit slack r) in
+    rw (p.1, p.2) (c.in_err-or-2.ensures.room limit slack (room_less limit _ _ _ (omega (arith, c.in-Ok.ensures.forward)) now))
+
+pub expr-returns-in_err-push-clause-room : goal.expr-returns-in_err-push-clause-room
+expr-returns-in_err-push-clause-room t c = λ limit slack r.
+    let p = err_from_is_err_and c.from_residual-in_err-push.result c.from_residual-in_err-push.ensures.1 in
+    let now = c.loop-place.invariant.room limit slack (c.in_ok-or.ensures.room limit slack r) in
+    let spare = room_less limit _ (length c.take.new.self + (slack + 1)) _ (omega (arith, c.in-Ok.ensures.forward)) now in
+    rw (p.1, p.2) (c.in_err-push.ensures.room limit _ (room_less limit _ _ _ (omega arith) (c.in_ok-or-2.ensures.room limit (slack + 1) spare)))
+
+pub expr-returns-clause-room : goal.expr-returns-clause-room
+expr-returns-clause-room t c = λ limit slack r.
+    let stays = c.in_default.ensures.stays in
+    room_less limit _ _ _ (omega (arith, ap length stays)) (c.loop-place.invariant.room limit slack (c.in_ok-or.ensures.room limit slack r))
+
+pub or-returns-in_err-xor-2-clause-room : goal.or-returns-in_err-xor-2-clause-room
+or-returns-in_err-xor-2-clause-room t c = λ limit slack r.
+    let p = err_from_is_err_and c.from_residual-in_err-xor-2.result c.from_residual-in_err-xor-2.ensures.1 in
+    let now = c.loop-place.invariant.room limit slack (c.in_ok-xor.ensures.room limit slack r) in
+    rw (p.1, p.2) (c.in_err-xor-2.ensures.room limit slack (room_less limit _ _ _ (omega (arith, c.in-Ok.ensures.forward)) now))
+
+pub or-returns-in_err-push-clause-room : goal.or-returns-in_err-push-clause-room
+or-returns-in_err-push-clause-room t c = λ limit slack r.
+    let p = err_from_is_err_and c.from_residual-in_err-push.result c.from_residual-in_err-push.ensures.1 in
+    let now = c.loop-place.invariant.room limit slack (c.in_ok-xor.ensures.room limit slack r) in
+    let spare = room_less limit _ (length c.take.new.self + (slack + 1)) _ (omega (arith, c.in-Ok.ensures.forward)) now in
+    rw (p.1, p.2) (c.in_err-push.ensures.room limit _ (room_less limit _ _ _ (omega arith) (c.in_ok-xor-2.ensures.room limit (slack + 1) spare)))
+
+pub or-returns-clause-room : goal.or-returns-clause-room
+or-returns-clause-room t c = λ limit slack r.
+    let stays = c.in_default.ensures.stays in
+    room_less limit _ _ _ (omega (arith, ap length stays)) (c.loop-place.invariant.room limit slack (c.in_ok-xor.ensures.room limit slack r))
+
+pub xor-returns-in_err-and-2-clause-room : goal.xor-returns-in_err-and-2-clause-room
+xor-returns-in_err-and-2-clause-room t c = λ limit slack r.
+    let p = err_from_is_err_and c.from_residual-in_err-and-2.result c.from_residual-in_err-and-2.ensures.1 in
+    let now = c.loop-place.invariant.room limit slack (c.in_ok-and.ensures.room limit slack r) in
+    rw (p.1, p.2) (c.in_err-and-2.ensures.room limit slack (room_less limit _ _ _ (omega (arith, c.in-Ok.ensures.forward)) now))
+
+pub xor-returns-in_err-push-clause-room : goal.xor-returns-in_err-push-clause-room
+xor-returns-in_err-push-clause-room t c = λ limit slack r.
+    let p = err_from_is_err_and c.from_residual-in_err-push.result c.from_residual-in_err-push.ensures.1 in
+    let now = c.loop-place.invariant.room limit slack (c.in_ok-and.ensures.room limit slack r) in
+    let spare = room_less limit _ (length c.take.new.self + (slack + 1)) _ (omega (arith, c.in-Ok.ensures.forward)) now in
+    rw (p.1, p.2) (c.in_err-push.ensures.room limit _ (room_less limit _ _ _ (omega arith) (c.in_ok-and-2.ensures.room limit (slack + 1) spare)))
+
+pub xor-returns-clause-room : goal.xor-returns-clause-room
+xor-returns-clause-room t c = λ limit slack r.
+    let stays = c.in_default.ensures.stays in
+    room_less limit _ _ _ (omega (arith, ap length stays)) (c.loop-place.invariant.room limit slack (c.in_ok-and.ensures.room limit slack r))
+
+pub and-returns-in_err-prefix-2-clause-room : goal.and-returns-in_err-prefix-2-clause-room
+and-returns-in_err-prefix-2-clause-room t c = λ limit slack r.
+    let p = err_from_is_err_and c.from_residual-in_err-prefix-2.result c.from_residual-in_err-prefix-2.ensures.1 in
+    let now = c.loop-place.invariant.room limit slack (c.in_ok-prefix.ensures.room limit slack r) in
+    rw (p.1, p.2) (c.in_err-prefix-2.ensures.room limit slack (room_less limit _ _ _ (omega (arith, c.in-Ok.ensures.forward)) now))
+
+pub and-returns-in_err-push-clause-room : goal.and-returns-in_err-push-clause-room
+and-returns-in_err-push-clause-room t c = λ limit slack r.
+    let p = err_from_is_err_and c.from_residual-in_err-push.result c.from_residual-in_err-push.ensures.1 in
+    let now = c.loop-place.invariant.room limit slack (c.in_ok-prefix.ensures.room limit slack r) in
+    let spare = room_less limit _ (length c.take.new.self + (slack + 1)) _ (omega (arith, c.in-Ok.ensures.forward)) now in
+    rw (p.1, p.2) (c.in_err-push.ensures.room limit _ (room_less limit _ _ _ (omega arith) (c.in_ok-prefix-2.ensures.room limit (slack + 1) spare)))
+
+pub and-returns-clause-room : goal.and-returns-clause-room
+and-returns-clause-room t c = λ limit slack r.
+    let stays = c.in_default.ensures.stays in
+    room_less limit _ _ _ (omega (arith, ap length stays)) (c.loop-place.invariant.room limit slack (c.in_ok-prefix.ensures.room limit slack r))
+
+pub group-returns-clause-room : goal.group-returns-clause-room
+group-returns-clause-room t c = λ limit slack r.
+    let inside = c.in_ok-expr.ensures.room limit slack (room_less limit _ _ _ (omega (arith, c.in_ok-take.ensures.forward)) r) in
+    room_less limit _ _ _ (omega (arith, c.in_ok-take-2.ensures.forward)) inside
+
+pub prefix-returns-clause-room : goal.prefix-returns-clause-room
+prefix-returns-clause-room t c = λ limit slack r.
+    let spare = room_less limit _ (length c.prefix_sign.new.cursor + (slack + 1)) _ (omega (arith, c.in_ok-sign.ensures.forward)) r in
+    c.push.ensures.room limit _ (room_less limit _ _ _ (omega arith) (c.in_ok-prefix.ensures.room limit (slack + 1) spare))

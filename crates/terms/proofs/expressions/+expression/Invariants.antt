@@ -1,5 +1,6 @@
-use Rattle.std.proofs.Common.{◌+◌, ◌*◌, ◌≤◌, length}
+use Rattle.std.proofs.Common.{ℕ, ◌+◌, ◌*◌, ◌≤◌, length}
 use Rattle.grammar.specs.Drafts.{term_lists}
+use Rattle.grammar.specs.Room.{TermsRoom}
 use Rattle.terms.proofs.Levels.{Along, commas, ors, xors, ands}
 use Rattle.terms.proofs.expressions.+expression.Given as goal
 
@@ -28,6 +29,7 @@ abbrev pub invariant-expr-loop-place : goal.invariant-expr-loop-place
 invariant-expr-loop-place l = record {
   goes : Along commas l.left l.driven l.initial.cursor (term_lists l.initial.terms) l.cursor (term_lists l.terms);
   behind : length l.cursor ≤ length l.initial.cursor;
+  room : (limit slack : ℕ) → TermsRoom limit (length l.initial.cursor + slack) l.initial.terms → TermsRoom limit (length l.cursor + slack) l.terms;
 }
 
 abbrev pub decreases-expr-loop-place : goal.decreases-expr-loop-place
@@ -37,6 +39,7 @@ abbrev pub invariant-or-loop-place : goal.invariant-or-loop-place
 invariant-or-loop-place l = record {
   goes : Along ors l.left l.driven l.initial.cursor (term_lists l.initial.terms) l.cursor (term_lists l.terms);
   behind : length l.cursor ≤ length l.initial.cursor;
+  room : (limit slack : ℕ) → TermsRoom limit (length l.initial.cursor + slack) l.initial.terms → TermsRoom limit (length l.cursor + slack) l.terms;
 }
 
 abbrev pub decreases-or-loop-place : goal.decreases-or-loop-place
@@ -46,6 +49,7 @@ abbrev pub invariant-xor-loop-place : goal.invariant-xor-loop-place
 invariant-xor-loop-place l = record {
   goes : Along xors l.left l.driven l.initial.cursor (term_lists l.initial.terms) l.cursor (term_lists l.terms);
   behind : length l.cursor ≤ length l.initial.cursor;
+  room : (limit slack : ℕ) → TermsRoom limit (length l.initial.cursor + slack) l.initial.terms → TermsRoom limit (length l.cursor + slack) l.terms;
 }
 
 abbrev pub decreases-xor-loop-place : goal.decreases-xor-loop-place
@@ -55,6 +59,7 @@ abbrev pub invariant-and-loop-place : goal.invariant-and-loop-place
 invariant-and-loop-place l = record {
   goes : Along ands l.left l.driven l.initial.cursor (term_lists l.initial.terms) l.cursor (term_lists l.terms);
   behind : length l.cursor ≤ length l.initial.cursor;
+  room : (limit slack : ℕ) → TermsRoom limit (length l.initial.cursor + slack) l.initial.terms → TermsRoom limit (length l.cursor + slack) l.terms;
 }
 
 abbrev pub decreases-and-loop-place : goal.decreases-and-loop-place

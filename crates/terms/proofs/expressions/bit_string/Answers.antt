@@ -1,4 +1,4 @@
-use Rattle.std.proofs.Common.{arith}
+use Rattle.std.proofs.Common.{◌+◌, length, arith}
 use Rattle.std.proofs.lemmas.Result.{err_from_is_err_and}
 use Rattle.words.specs.declared.token.Sign.TheVariants.{Backslash}
 use Rattle.grammar.specs.Rules.{mark, ◌then◌, integers}
@@ -36,4 +36,15 @@ returns-clause-told c = λ n.
     let b = c.in_ok-take.ensures.told in
     let reads = then_got n (mark Backslash) (integers then mark Backslash) _ _ _ _ _ (word_got n (mark Backslash) tt _ _ _ m.1) (then_got n integers (mark Backslash) _ _ _ _ _ i.1 (word_got n (mark Backslash) tt _ _ _ b.1)) in
     let l = c.len-last.ensures in
-    wrote_last (read n string_rule c.args.cursor.now) (λ t. string_rows t c.args.driven) (term_lists c.args.terms.now) _ _ (λ h. (both m.0 (both i.0 b.0), reads, string_is m.0 i.0 b.0 _ _ _ _ (term_lists c.args.terms.now) _ m.2 i.2 (omega arith) h)) _ c.push.ensures
+    wrote_last (read n string_rule c.args.cursor.now) (λ t. string_rows t c.args.driven) (term_lists c.args.terms.now) _ _ (λ h. (both m.0 (both i.0 b.0), reads, string_is m.0 i.0 b.0 _ _ _ _ (term_lists c.args.terms.now) _ m.2 i.2 (omega arith) h)) _ c.push.ensures.pushed
+
+pub returns-clause-room : goal.returns-clause-room
+returns-clause-room c = λ limit slack r.
+    let place = c.in_ok-place.ensures.forward in
+    let list = c.in_ok-integers.ensures.forward in
+    let close = c.in_ok-take.ensures.forward in
+    let digits = c.in_ok-integers.ensures.room limit slack (omega (arith, place, r.digits.0), r.digits.1) in
+    c.push.ensures.room limit (length c.take-2.new.self + slack) (record {
+      nodes = (omega (arith, place, list, close, r.nodes.0), r.nodes.1);
+      digits = (omega (arith, close, digits.0), digits.1);
+    })

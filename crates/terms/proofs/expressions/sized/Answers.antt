@@ -34,4 +34,4 @@ returns-clause-told c = λ n.
     let d = c.in_ok-take.ensures.told in
     let k = c.in_ok-second.ensures.told in
     let reads = then_got n integer (mark Dollar then integer) _ _ _ _ _ (word_got n integer tt _ _ _ m.1) (then_got n (mark Dollar) integer _ _ _ _ _ (word_got n (mark Dollar) tt _ _ _ d.1) (word_got n integer tt _ _ _ k.1)) in
-    wrote_last (read n sized_rule c.args.cursor.now) (λ t. sized_rows t c.args.driven) (term_lists c.args.terms.now) _ _ (λ h. (both m.0 (both d.0 k.0), reads, sized_is m.0 d.0 k.0 _ _ _ m.2 k.2 _ _ h)) _ c.push.ensures
+    wrote_last (read n sized_rule c.args.cursor.now) (λ t. sized_rows t c.args.driven) (term_lists c.args.terms.now) _ _ (λ h. (both m.0 (both d.0 k.0), reads, sized_is m.0 d.0 k.0 _ _ _ m.2 k.2 _ _ h)) _ c.push.ensures.pushed
