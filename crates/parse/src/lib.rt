@@ -1,18 +1,231 @@
 //! The readers of declarations and of a whole module.
 #![tactic(auto)]
 
-ghost use Rattle.grammar.specs.Rules.{unit};
+ghost use Rattle.std.specs.Prelude.{◌≡◌, ◌<◌, ◌≤◌, ◌||◌, length, OnOk};
+ghost use Rattle.words.specs.declared.token.Sign.TheVariants.{Semicolon};
+ghost use Rattle.grammar.specs.Sorts.{sort, starts};
+ghost use Rattle.grammar.specs.Rules.{mark, ◌then◌, many, list_of, conn, item as item_rule, class as class_rule, decl, step as step_rule, unit};
 ghost use Rattle.grammar.specs.Reading.{read};
 ghost use Rattle.grammar.specs.Promise.{deepest};
+ghost use Rattle.grammar.specs.Drafts.{row_lists, no_rows, width_of, item_rows, class_of, decl_rows, more_decls, more_steps, more_conns};
+ghost use Rattle.cursor.specs.Told.{Told, Wrote, Gave};
 ghost use Rattle.parse.specs.Drafted.{Drafted};
+ghost use Rattle.parse.specs.Parts.{width as width_rule, item_row, closing as closing_rule, closing_rows, reset as reset_rule, reset_and_closing_rows, control as control_rule, control_rows, body as body_rule, body_given, contents as contents_rule, contents_given};
 
-use cursor::{Cursor, Stop};
-use grammar::Draft;
+use cursor::{AnyInteger, AnyName, Cursor, Stop};
+use grammar::{Class, Draft, Item, Name, Number, Rows, Terms};
+use statements::{connection, step};
 use std::alloc::Global;
+use terms::integers;
+use words::{Keyword, Sign};
+
+// Reads the width of a symbol, where one is written.
+#[tactic(auto, using(crate::proofs::Turns::turns))]
+fn width(cursor: &mut Cursor<'_>) -> Result<Option<Number>, Stop>
+    ensures told { Told (read deepest width_rule cursor.old) width_of result cursor.new }
+    ensures forward { OnOk result (length cursor.new ≤ length cursor.old) }
+{
+    if !cursor.at(Sign::LeftBracket) {
+        return Ok(None);
+    }
+    cursor.take(Sign::LeftBracket)?;
+    let bits = cursor.take(AnyInteger)?;
+    cursor.take(Sign::RightBracket)?;
+    Ok(Some(bits))
+}
+
+// Reads a symbol of that class.
+#[tactic(auto, using(crate::proofs::Turns::turns))]
+fn item(cursor: &mut Cursor<'_>, class: Class, rows: &mut Rows) -> Result<(), Stop>
+    ensures told { Wrote (read deepest item_rule cursor.old) (item_row class) (row_lists rows.old) result cursor.new (row_lists rows.new) }
+    ensures forward { OnOk result (length cursor.new < length cursor.old) }
+{
+    let name = cursor.take(AnyName)?;
+    let width = width(cursor)?;
+    rows.items.push(Item { class, name, width })?;
+    Ok(())
+}
+
+// Reads the symbols of a declaration of that class.
+#[tactic(auto, using(crate::proofs::Turns::turns))]
+fn items(cursor: &mut Cursor<'_>, class: Class, rows: &mut Rows) -> Result<(), Stop>
+    ensures told { Wrote (read deepest (list_of item_rule Semicolon) cursor.old) (item_rows class) (row_lists rows.old) result cursor.new (row_lists rows.new) }
+    ensures forward { OnOk result (length cursor.new < length cursor.old) }
+{
+    item(cursor, class, rows)?;
+    while cursor.at(Sign::Semicolon) {
+        cursor.take(Sign::Semicolon)?;
+        item(cursor, class, rows)?;
+    }
+    Ok(())
+}
+
+// Reads the keyword of a class.
+#[tactic(auto, using(crate::proofs::Turns::turns))]
+fn class(cursor: &mut Cursor<'_>) -> Result<Class, Stop>
+    ensures told { Told (read deepest class_rule cursor.old) class_of result cursor.new }
+    ensures forward { OnOk result (length cursor.new < length cursor.old) }
+{
+    if cursor.at(Keyword::Inputs) {
+        cursor.take(Keyword::Inputs)?;
+        return Ok(Class::Input);
+    }
+    if cursor.at(Keyword::Outputs) {
+        cursor.take(Keyword::Outputs)?;
+        return Ok(Class::Output);
+    }
+    if cursor.at(Keyword::Memory) {
+        cursor.take(Keyword::Memory)?;
+        return Ok(Class::Memory);
+    }
+    cursor.take(Keyword::Buses)?;
+    Ok(Class::Bus)
+}
+
+// Whether a declaration stands next.
+fn at_declaration(cursor: &Cursor<'_>) -> bool
+    ensures { result ≡ starts decl (sort cursor.now) }
+{
+    cursor.at(Keyword::Inputs)
+        || cursor.at(Keyword::Outputs)
+        || cursor.at(Keyword::Memory)
+        || cursor.at(Keyword::Buses)
+}
+
+// Reads a declaration.
+#[tactic(auto, using(crate::proofs::Turns::turns))]
+fn declaration(cursor: &mut Cursor<'_>, rows: &mut Rows) -> Result<(), Stop>
+    ensures told { Wrote (read deepest decl cursor.old) decl_rows (row_lists rows.old) result cursor.new (row_lists rows.new) }
+    ensures forward { OnOk result (length cursor.new < length cursor.old) }
+{
+    let class = class(cursor)?;
+    cursor.take(Sign::Colon)?;
+    items(cursor, class, rows)?;
+    cursor.take(Sign::Dot)?;
+    Ok(())
+}
+
+// Reads declarations as long as one stands next.
+#[tactic(auto, using(crate::proofs::Turns::turns))]
+fn declarations(cursor: &mut Cursor<'_>, rows: &mut Rows) -> Result<(), Stop>
+    ensures told { Wrote (read deepest (many decl) cursor.old) more_decls (row_lists rows.old) result cursor.new (row_lists rows.new) }
+{
+    while at_declaration(cursor) {
+        declaration(cursor, rows)?;
+    }
+    Ok(())
+}
+
+// Reads control steps as long as one stands next.
+#[tactic(auto, using(crate::proofs::Turns::turns))]
+fn steps(cursor: &mut Cursor<'_>, rows: &mut Rows) -> Result<(), Stop>
+    ensures told { Wrote (read deepest (many step_rule) cursor.old) more_steps (row_lists rows.old) result cursor.new (row_lists rows.new) }
+{
+    while cursor.at(AnyInteger) {
+        step(cursor, rows)?;
+    }
+    Ok(())
+}
+
+// Reads the connections behind CONTROLRESET, each with the `;` before it.
+#[tactic(auto, using(crate::proofs::Turns::turns))]
+fn connections(cursor: &mut Cursor<'_>, rows: &mut Rows) -> Result<(), Stop>
+    ensures told { Wrote (read deepest (many (mark Semicolon then conn)) cursor.old) more_conns (row_lists rows.old) result cursor.new (row_lists rows.new) }
+{
+    while cursor.at(Sign::Semicolon) {
+        cursor.take(Sign::Semicolon)?;
+        connection(cursor, rows)?;
+    }
+    Ok(())
+}
+
+// Reads a module from behind the list of CONTROLRESET on.
+#[tactic(auto, using(crate::proofs::Turns::turns))]
+fn closing(cursor: &mut Cursor<'_>, rows: &mut Rows) -> Result<(), Stop>
+    ensures told { Wrote (read deepest closing_rule cursor.old) closing_rows (row_lists rows.old) result cursor.new (row_lists rows.new) }
+{
+    connections(cursor, rows)?;
+    cursor.take(Sign::Dot)?;
+    cursor.take(Keyword::End)?;
+    cursor.take(Sign::Dot)?;
+    Ok(())
+}
+
+// Reads a module from ENDSEQUENCE on: the steps that CONTROLRESET enters, and what is behind them.
+#[tactic(auto, using(crate::proofs::Turns::turns))]
+fn reset(cursor: &mut Cursor<'_>, rows: &mut Rows) -> Result<(), Stop>
+    ensures told { Wrote (read deepest reset_rule cursor.old) reset_and_closing_rows (row_lists rows.old) result cursor.new (row_lists rows.new) }
+{
+    cursor.take(Keyword::EndSequence)?;
+    cursor.take(Keyword::ControlReset)?;
+    cursor.take(Sign::LeftParen)?;
+    integers(cursor, &mut rows.resets)?;
+    cursor.take(Sign::RightParen)?;
+    closing(cursor, rows)
+}
+
+// Reads a module from its first control step on.
+#[tactic(auto, using(crate::proofs::Turns::turns))]
+fn control(cursor: &mut Cursor<'_>, rows: &mut Rows) -> Result<(), Stop>
+    ensures told { Wrote (read deepest control_rule cursor.old) control_rows (row_lists rows.old) result cursor.new (row_lists rows.new) }
+{
+    step(cursor, rows)?;
+    steps(cursor, rows)?;
+    reset(cursor, rows)
+}
+
+// Reads a module from BODY on, and answers the clock's name.
+#[tactic(auto, using(crate::proofs::Turns::turns))]
+fn body(cursor: &mut Cursor<'_>, rows: &mut Rows) -> Result<Name, Stop>
+    ensures told { Gave (read deepest body_rule cursor.old) body_given (row_lists rows.old) result cursor.new (row_lists rows.new) }
+{
+    cursor.take(Keyword::Body)?;
+    cursor.take(Keyword::Sequence)?;
+    cursor.take(Sign::Colon)?;
+    let clock = cursor.take(AnyName)?;
+    cursor.take(Sign::Dot)?;
+    control(cursor, rows)?;
+    Ok(clock)
+}
+
+// Reads a module from its first declaration on, and answers the clock's name.
+#[tactic(auto, using(crate::proofs::Turns::turns))]
+fn contents(cursor: &mut Cursor<'_>, rows: &mut Rows) -> Result<Name, Stop>
+    ensures told { Gave (read deepest contents_rule cursor.old) contents_given (row_lists rows.old) result cursor.new (row_lists rows.new) }
+{
+    declaration(cursor, rows)?;
+    declarations(cursor, rows)?;
+    body(cursor, rows)
+}
+
+// Tables with no rows.
+fn empty_rows(heap: Global) -> Rows
+    ensures { row_lists result ≡ no_rows }
+{
+    Rows {
+        items: Vec::new(heap),
+        steps: Vec::new(heap),
+        statements: Vec::new(heap),
+        targets: Vec::new(heap),
+        exits: Vec::new(heap),
+        resets: Vec::new(heap),
+        terms: Terms {
+            nodes: Vec::new(heap),
+            digits: Vec::new(heap),
+        },
+    }
+}
 
 /// Reads a module. What stands behind it is left.
+#[tactic(auto, using(crate::proofs::Turns::turns))]
 pub fn parse_module(heap: Global, cursor: &mut Cursor<'_>) -> Result<Draft, Stop>
     ensures told { Drafted (read deepest unit cursor.old) result cursor.new }
 {
-    Err(Stop::OutOfMemory)
+    cursor.take(Keyword::Module)?;
+    cursor.take(Sign::Colon)?;
+    let title = cursor.take(AnyName)?;
+    cursor.take(Sign::Dot)?;
+    let mut rows = empty_rows(heap);
+    let clock = contents(cursor, &mut rows)?;
+    Ok(Draft { title, clock, rows })
 }

@@ -1,0 +1,48 @@
+-- How what a chain of rules comes to follows from its parts, one after the other. Assumes nothing.
+use Rattle.std.proofs.Common.{◌≡◌, ℕ, List, cond, refl, ap, sym, ◌∙◌, arith}
+use Rattle.words.specs.declared.token.Sign.{Sign}
+use Rattle.words.specs.declared.token.Keyword.{Keyword}
+use Rattle.words.specs.declared.token.Token.{Token}
+use Rattle.grammar.specs.Rules.{Rule, mark, keyword, name, integer, ◌then◌, maybe, either}
+use Rattle.grammar.specs.Sorts.{sort, starts}
+use Rattle.grammar.specs.Trees.{Tree, both, some, none, left, right}
+use Rattle.grammar.specs.Reading.{Out, got, wrong, deep, map_out, and_then, IsWord, read_word, read_with, read_part, read}
+use Rattle.cursor.specs.declared.stop.Stop.{Stop}
+use Rattle.cursor.specs.Told.{Stopped}
+use Rattle.cursor.proofs.Steps.{word_is}
+
+-- rows of what stands behind a sign
+abbrev pub behind : {a : Rule} {s : Sign} {D : Type 0} → (Tree a → D → D) → Tree (mark s then a) → D → D
+behind f (both p t) d = f t d
+
+module _ (n : ℕ) where
+  pub read_then : (a b : Rule) (ws : List Token) → read n (a then b) ws ≡ and_then (read n a ws) (λ t us. map_out (both t) (read n b us))
+  unfolding read read_with
+  read_then a b ws = refl
+
+  pub read_maybe : (a : Rule) (ws : List Token) → read n (maybe a) ws ≡ cond (starts a (sort ws)) (map_out some (read n a ws)) (got none ws)
+  unfolding read read_with
+  read_maybe a ws = refl
+
+  pub read_either : (a b : Rule) (ws : List Token) → read n (either a b) ws ≡ cond (starts a (sort ws)) (map_out left (read n a ws)) (map_out right (read n b ws))
+  unfolding read read_with
+  read_either a b ws = refl
+
+  pub read_mark : (s : Sign) (ws : List Token) → read n (mark s) ws ≡ read_word (mark s) ws
+  unfolding read read_with
+  read_mark s ws = refl
+
+  pub read_keyword : (k : Keyword) (ws : List Token) → read n (keyword k) ws ≡ read_word (keyword k) ws
+  unfolding read read_with
+  read_keyword k ws = refl
+
+  pub read_name : (ws : List Token) → read n name ws ≡ read_word name ws
+  unfolding read read_with
+  read_name ws = refl
+
+  pub read_integer : (ws : List Token) → read n integer ws ≡ read_word integer ws
+  unfolding read read_with
+  read_integer ws = refl
+
+-- what reading a chain, a choice or a single word comes to, by its parts
+pub ruleset turns = (read_then, read_maybe, read_either, read_mark, read_keyword, read_name, read_integer)

@@ -1,0 +1,14 @@
+use Rattle.std.proofs.Common.{length}
+use Rattle.words.specs.declared.token.Sign.TheVariants.{Semicolon}
+use Rattle.grammar.specs.Rules.{mark, ◌then◌, conn}
+use Rattle.grammar.specs.Drafts.{row_lists, conn_rows, more_conns}
+use Rattle.grammar.specs.Promise.{deepest}
+use Rattle.cursor.proofs.Steps.{Goes}
+use Rattle.parse.proofs.Turns.{behind}
+use Rattle.parse.proofs.connections.Given as goal
+
+abbrev pub invariant-loop-cursor : goal.invariant-loop-cursor
+invariant-loop-cursor l = Goes deepest (mark Semicolon then conn) more_conns (behind conn_rows) l.initial.cursor (row_lists l.initial.rows) l.cursor (row_lists l.rows)
+
+abbrev pub decreases-loop-cursor : goal.decreases-loop-cursor
+decreases-loop-cursor l = length l.cursor

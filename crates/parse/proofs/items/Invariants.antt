@@ -1,0 +1,15 @@
+use Rattle.std.proofs.Common.{length}
+use Rattle.words.specs.declared.token.Sign.TheVariants.{Semicolon}
+use Rattle.grammar.specs.Rules.{mark, ◌then◌, item}
+use Rattle.grammar.specs.Drafts.{row_lists, more_items}
+use Rattle.grammar.specs.Promise.{deepest}
+use Rattle.cursor.proofs.Steps.{Goes}
+use Rattle.parse.proofs.Turns.{behind}
+use Rattle.parse.specs.Parts.{item_row}
+use Rattle.parse.proofs.items.Given as goal
+
+abbrev pub invariant-loop-class : goal.invariant-loop-class
+invariant-loop-class l = Goes deepest (mark Semicolon then item) (more_items l.class) (behind (item_row l.class)) l.initial.cursor (row_lists l.initial.rows) l.cursor (row_lists l.rows)
+
+abbrev pub decreases-loop-class : goal.decreases-loop-class
+decreases-loop-class l = length l.cursor
