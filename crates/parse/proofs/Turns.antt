@@ -1,11 +1,15 @@
 -- How what a chain of rules comes to follows from its parts, one after the other. Assumes nothing.
 use Rattle.std.proofs.Common.{◌≡◌, ℕ, List, cond, refl, ap, sym, ◌∙◌, arith}
 use Rattle.words.specs.declared.token.Sign.{Sign}
+use Rattle.words.specs.declared.token.Sign.TheVariants.{Semicolon}
 use Rattle.words.specs.declared.token.Keyword.{Keyword}
 use Rattle.words.specs.declared.token.Token.{Token}
-use Rattle.grammar.specs.Rules.{Rule, mark, keyword, name, integer, ◌then◌, maybe, either}
+use Rattle.grammar.specs.Rules.{Rule, mark, keyword, name, integer, ◌then◌, maybe, many, either, item, conn}
 use Rattle.grammar.specs.Sorts.{sort, starts}
-use Rattle.grammar.specs.Trees.{Tree, both, some, none, left, right}
+use Rattle.grammar.specs.Trees.{Tree, both, some, none, left, right, more}
+use Rattle.grammar.specs.declared.draft.Class.{Class}
+use Rattle.grammar.specs.Drafts.{RowLists, more_items, conn_rows, more_conns}
+use Rattle.parse.specs.Parts.{item_row}
 use Rattle.grammar.specs.Reading.{Out, got, wrong, deep, map_out, and_then, IsWord, read_word, read_with, read_part, read}
 use Rattle.cursor.specs.declared.stop.Stop.{Stop}
 use Rattle.cursor.specs.Told.{Stopped}
@@ -46,3 +50,10 @@ module _ (n : ℕ) where
 
 -- what reading a chain, a choice or a single word comes to, by its parts
 pub ruleset turns = (read_then, read_maybe, read_either, read_mark, read_keyword, read_name, read_integer)
+
+-- one turn of a loop, in rows
+pub more_conns-more : (t : Tree (mark Semicolon then conn)) (u : Tree (many (mark Semicolon then conn))) (d : RowLists) → more_conns (more t u) d ≡ more_conns u (behind conn_rows t d)
+more_conns-more (both p c) u d = refl
+
+pub more_items-more : (c : Class) (t : Tree (mark Semicolon then item)) (u : Tree (many (mark Semicolon then item))) (d : RowLists) → more_items c (more t u) d ≡ more_items c u (behind (item_row c) t d)
+more_items-more c (both p i) u d = refl
