@@ -1,5 +1,5 @@
 -- How what a chain of rules comes to follows from its parts, one after the other. Assumes nothing.
-use Rattle.std.proofs.Common.{◌≡◌, ℕ, List, cond, refl, ap, sym, ◌∙◌, arith}
+use Rattle.std.proofs.Common.{◌≡◌, ℕ, List, cond, refl, ◌∙◌}
 use Rattle.words.specs.declared.token.Sign.{Sign}
 use Rattle.words.specs.declared.token.Sign.TheVariants.{Semicolon}
 use Rattle.words.specs.declared.token.Keyword.{Keyword}
@@ -10,10 +10,8 @@ use Rattle.grammar.specs.Trees.{Tree, both, some, none, left, right, more}
 use Rattle.grammar.specs.declared.draft.Class.{Class}
 use Rattle.grammar.specs.Drafts.{RowLists, more_items, conn_rows, more_conns}
 use Rattle.parse.specs.Parts.{item_row}
-use Rattle.grammar.specs.Reading.{Out, got, wrong, deep, map_out, and_then, IsWord, read_word, read_with, read_part, read}
-use Rattle.cursor.specs.declared.stop.Stop.{Stop}
-use Rattle.cursor.specs.Told.{Stopped}
-use Rattle.cursor.proofs.Steps.{word_is}
+use Rattle.grammar.specs.Reading.{got, map_out, and_then, IsWord, read_word, read_with, read}
+use Rattle.cursor.proofs.Steps.{word_is, then_got}
 
 -- rows of what stands behind a sign
 abbrev pub behind : {a : Rule} {s : Sign} {D : Type 0} → (Tree a → D → D) → Tree (mark s then a) → D → D
@@ -50,6 +48,13 @@ module _ (n : ℕ) where
 
 -- what reading a chain, a choice or a single word comes to, by its parts
 pub ruleset turns = (read_then, read_maybe, read_either, read_mark, read_keyword, read_name, read_integer)
+
+-- a word and what stands behind it
+pub word_then : (n : ℕ) (a b : Rule) → IsWord a → (ws : List Token) (t : Tree a) (us : List Token) (u : Tree b) (vs : List Token) → read_word a ws ≡ got t us → read n b us ≡ got u vs → read n (a then b) ws ≡ got (both t u) vs
+word_then n a b w ws t us u vs p q = then_got n a b ws t us u vs (word_is n a w ws ∙ p) q
+
+pub pair_is : {A B : Type 0} {a c : A} {b d : B} → a ≡ c → b ≡ d → ◌≡◌ {A = A × B} (a, b) (c, d)
+pair_is p q = cc
 
 -- one turn of a loop, in rows
 pub more_conns-more : (t : Tree (mark Semicolon then conn)) (u : Tree (many (mark Semicolon then conn))) (d : RowLists) → more_conns (more t u) d ≡ more_conns u (behind conn_rows t d)

@@ -1,6 +1,5 @@
 -- What is left of the rule of a module from some place on, and the rows that it makes. The rule is one long chain of words and
 -- parts, so that a reader of its rest from a place on reads something under a rule again. Assumes nothing.
-use Rattle.std.specs.Prelude.{Option}
 use Rattle.words.specs.declared.token.Sign.TheVariants.{Dot, Colon, Semicolon, LeftParen, RightParen, LeftBracket, RightBracket}
 use Rattle.words.specs.declared.token.Keyword.TheVariants.{Body, Sequence, EndSequence, ControlReset, End}
 use Rattle.grammar.specs.declared.draft.Name.{Name}

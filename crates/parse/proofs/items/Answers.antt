@@ -39,7 +39,7 @@ pub returns-clause-told : goal.returns-clause-told
 returns-clause-told c =
     let (first, begun, wrote) = c.in_ok-item.ensures.told in
     let (others, read_on, wrote_on) = goes_end deepest (mark Semicolon then item) (more_items c.args.class) (behind (item_row c.args.class)) c.item.new.cursor (row_lists c.item.new.rows)
-      (λ d. refl) c.loop-class.cursor (row_lists c.loop-class.rows) c.loop-class.invariant.went (grind (arith, common_steps)) in
+    (λ d. refl) c.loop-class.cursor (row_lists c.loop-class.rows) c.loop-class.invariant.went (grind (arith, common_steps)) in
     (both first others, grind (arith, turns), grind arith)
 
 pub returns-clause-forward : goal.returns-clause-forward
