@@ -9,13 +9,9 @@ use Rattle.grammar.specs.Sorts.{sort, starts}
 use Rattle.grammar.specs.Trees.{Tree, both, some, none, left, right, more}
 use Rattle.grammar.specs.declared.draft.Class.{Class}
 use Rattle.grammar.specs.Drafts.{RowLists, more_items, conn_rows, more_conns}
-use Rattle.parse.specs.Parts.{item_row}
+use Rattle.parse.specs.Parts.{item_row, behind}
 use Rattle.grammar.specs.Reading.{got, map_out, and_then, IsWord, read_word, read_with, read}
 use Rattle.cursor.proofs.Steps.{word_is, then_got}
-
--- rows of what stands behind a sign
-abbrev pub behind : {a : Rule} {s : Sign} {D : Type 0} → (Tree a → D → D) → Tree (mark s then a) → D → D
-behind f (both p t) d = f t d
 
 module _ (n : ℕ) where
   pub read_then : (a b : Rule) (ws : List Token) → read n (a then b) ws ≡ and_then (read n a ws) (λ t us. map_out (both t) (read n b us))

@@ -1,5 +1,6 @@
 -- What is left of the rule of a module from some place on, and the rows that it makes. The rule is one long chain of words and
 -- parts, so that a reader of its rest from a place on reads something under a rule again. Assumes nothing.
+use Rattle.words.specs.declared.token.Sign.{Sign}
 use Rattle.words.specs.declared.token.Sign.TheVariants.{Dot, Colon, Semicolon, LeftParen, RightParen, LeftBracket, RightBracket}
 use Rattle.words.specs.declared.token.Keyword.TheVariants.{Body, Sequence, EndSequence, ControlReset, End}
 use Rattle.grammar.specs.declared.draft.Name.{Name}
@@ -15,6 +16,10 @@ width = maybe (mark LeftBracket then integer then mark RightBracket)
 -- an item, as a row behind those that stand already
 abbrev pub item_row : Class → Tree item → RowLists → RowLists
 item_row c i d = with_item d (item_of c i)
+
+-- the rows of what stands behind a sign
+abbrev pub behind : {a : Rule} {s : Sign} → (Tree a → RowLists → RowLists) → Tree (mark s then a) → RowLists → RowLists
+behind f (both p t) d = f t d
 
 -- from behind the list of CONTROLRESET on
 abbrev pub closing : Rule

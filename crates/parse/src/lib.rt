@@ -7,10 +7,10 @@ ghost use Rattle.grammar.specs.Sorts.{sort, starts};
 ghost use Rattle.grammar.specs.Rules.{mark, ◌then◌, many, list_of, conn, item as item_rule, class as class_rule, decl, step as step_rule, unit};
 ghost use Rattle.grammar.specs.Reading.{read};
 ghost use Rattle.grammar.specs.Promise.{deepest};
-ghost use Rattle.grammar.specs.Drafts.{row_lists, no_rows, width_of, item_rows, class_of, decl_rows, more_decls, more_steps, more_conns};
+ghost use Rattle.grammar.specs.Drafts.{row_lists, no_rows, width_of, item_rows, class_of, decl_rows, more_decls, more_steps, conn_rows, more_conns};
 ghost use Rattle.cursor.specs.Told.{Told, Wrote, Gave};
 ghost use Rattle.parse.specs.Drafted.{Drafted};
-ghost use Rattle.parse.specs.Parts.{width as width_rule, item_row, closing as closing_rule, closing_rows, reset as reset_rule, reset_and_closing_rows, control as control_rule, control_rows, body as body_rule, body_given, contents as contents_rule, contents_given};
+ghost use Rattle.parse.specs.Parts.{width as width_rule, item_row, behind, closing as closing_rule, closing_rows, reset as reset_rule, reset_and_closing_rows, control as control_rule, control_rows, body as body_rule, body_given, contents as contents_rule, contents_given};
 
 use cursor::{AnyInteger, AnyName, Cursor, Stop};
 use grammar::{Class, Draft, Item, Name, Number, Rows, Terms};
@@ -46,6 +46,16 @@ fn item(cursor: &mut Cursor<'_>, class: Class, rows: &mut Rows) -> Result<(), St
     Ok(())
 }
 
+// Reads a further symbol of that class, with the `;` before it.
+#[tactic(auto, using(crate::proofs::Turns::turns))]
+fn next_item(cursor: &mut Cursor<'_>, class: Class, rows: &mut Rows) -> Result<(), Stop>
+    ensures told { Wrote (read deepest (mark Semicolon then item_rule) cursor.old) (behind (item_row class)) (row_lists rows.old) result cursor.new (row_lists rows.new) }
+    ensures forward { OnOk result (length cursor.new < length cursor.old) }
+{
+    cursor.take(Sign::Semicolon)?;
+    item(cursor, class, rows)
+}
+
 // Reads the symbols of a declaration of that class.
 #[tactic(auto, using(crate::proofs::Turns::turns))]
 fn items(cursor: &mut Cursor<'_>, class: Class, rows: &mut Rows) -> Result<(), Stop>
@@ -54,8 +64,7 @@ fn items(cursor: &mut Cursor<'_>, class: Class, rows: &mut Rows) -> Result<(), S
 {
     item(cursor, class, rows)?;
     while cursor.at(Sign::Semicolon) {
-        cursor.take(Sign::Semicolon)?;
-        item(cursor, class, rows)?;
+        next_item(cursor, class, rows)?;
     }
     Ok(())
 }
@@ -127,14 +136,23 @@ fn steps(cursor: &mut Cursor<'_>, rows: &mut Rows) -> Result<(), Stop>
     Ok(())
 }
 
-// Reads the connections behind CONTROLRESET, each with the `;` before it.
+// Reads a connection behind CONTROLRESET, with the `;` before it.
+#[tactic(auto, using(crate::proofs::Turns::turns))]
+fn next_connection(cursor: &mut Cursor<'_>, rows: &mut Rows) -> Result<(), Stop>
+    ensures told { Wrote (read deepest (mark Semicolon then conn) cursor.old) (behind conn_rows) (row_lists rows.old) result cursor.new (row_lists rows.new) }
+    ensures forward { OnOk result (length cursor.new < length cursor.old) }
+{
+    cursor.take(Sign::Semicolon)?;
+    connection(cursor, rows)
+}
+
+// Reads the connections behind CONTROLRESET.
 #[tactic(auto, using(crate::proofs::Turns::turns))]
 fn connections(cursor: &mut Cursor<'_>, rows: &mut Rows) -> Result<(), Stop>
     ensures told { Wrote (read deepest (many (mark Semicolon then conn)) cursor.old) more_conns (row_lists rows.old) result cursor.new (row_lists rows.new) }
 {
     while cursor.at(Sign::Semicolon) {
-        cursor.take(Sign::Semicolon)?;
-        connection(cursor, rows)?;
+        next_connection(cursor, rows)?;
     }
     Ok(())
 }

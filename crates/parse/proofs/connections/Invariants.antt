@@ -4,7 +4,7 @@ use Rattle.grammar.specs.Rules.{mark, ◌then◌, conn}
 use Rattle.grammar.specs.Drafts.{row_lists, conn_rows, more_conns}
 use Rattle.grammar.specs.Promise.{deepest}
 use Rattle.cursor.proofs.Steps.{Goes}
-use Rattle.parse.proofs.Turns.{behind}
+use Rattle.parse.specs.Parts.{behind}
 use Rattle.parse.proofs.connections.Given as goal
 
 abbrev pub invariant-loop-cursor : goal.invariant-loop-cursor

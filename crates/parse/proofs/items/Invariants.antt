@@ -4,8 +4,7 @@ use Rattle.grammar.specs.Rules.{mark, ◌then◌, item}
 use Rattle.grammar.specs.Drafts.{row_lists, more_items}
 use Rattle.grammar.specs.Promise.{deepest}
 use Rattle.cursor.proofs.Steps.{Goes}
-use Rattle.parse.proofs.Turns.{behind}
-use Rattle.parse.specs.Parts.{item_row}
+use Rattle.parse.specs.Parts.{item_row, behind}
 use Rattle.parse.proofs.items.Given as goal
 
 abbrev pub invariant-loop-class : goal.invariant-loop-class
