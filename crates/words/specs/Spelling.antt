@@ -1,5 +1,5 @@
 -- The words of a text. Assumes nothing.
-use Rattle.std.specs.Prelude.{◌≡◌, ℕ, ◌+◌, ◌*◌, ◌-◌, ◌<◌, ◌≤◌, Bool, true, false, ◌||◌, ◌==◌, List, [], ◌∷◌, ◌++◌, length, map, All, codes}
+use Rattle.std.specs.Prelude.{◌≡◌, ℕ, ◌+◌, ◌*◌, ◌-◌, ◌<◌, ◌≤◌, Bool, true, false, ◌||◌, ◌==◌, List, [], ◌∷◌, ◌++◌, length, map, codes}
 use Rattle.std.specs.Char.{is_ascii_alphabetic, is_ascii_digit, to_ascii_uppercase}
 use Rattle.words.specs.declared.token.Sign.{Sign}
 use Rattle.words.specs.declared.token.Sign.TheVariants.{Dot, Colon, Semicolon, Comma, LeftParen, RightParen, LeftBracket, RightBracket, Slash, Backslash, Dollar, And, Or, Xor, Not, Star, Equal, Transfer, Branch, AndReduce, OrReduce, XorReduce}
@@ -15,8 +15,13 @@ use Rattle.words.specs.declared.faults.WordFault.TheVariants.{NoWord, LongName, 
 abbrev pub is_separator : ℕ → Bool
 is_separator b = b == 9 || b == 10 || b == 13 || b == 32
 
+-- each byte passes the test
+abbrev pub Every : (ℕ → Bool) → List ℕ → Type 0
+Every test [] = Unit {0}
+Every test (b ∷ bs) = (test b ≡ true) × Every test bs
+
 abbrev pub Separators : List ℕ → Type 0
-Separators = All (λ b. is_separator b ≡ true)
+Separators = Every is_separator
 
 -- how a sign is written
 abbrev pub sign_text : Sign → List ℕ
@@ -69,12 +74,12 @@ in_name b = is_ascii_alphabetic b || is_ascii_digit b || b == 95
 -- a letter, then letters, digits or underscores
 abbrev pub Lettered : List ℕ → Type 0
 Lettered [] = ⊥
-Lettered (b ∷ bs) = (is_ascii_alphabetic b ≡ true) × All (λ c. in_name c ≡ true) bs
+Lettered (b ∷ bs) = (is_ascii_alphabetic b ≡ true) × Every in_name bs
 
 -- one digit or more
 abbrev pub Digits : List ℕ → Type 0
 Digits [] = ⊥
-Digits (b ∷ bs) = All (λ c. is_ascii_digit c ≡ true) (b ∷ bs)
+Digits (b ∷ bs) = Every is_ascii_digit (b ∷ bs)
 
 -- the number that digits write in base ten, behind those that stand for n already
 abbrev pub decimal_from : ℕ → List ℕ → ℕ
@@ -138,21 +143,25 @@ pub record Spelled (text : List ℕ) (tokens : List Token) : Type 0 where
   pub words : BeginsWith 0 text tokens place tail
   pub blank : Separators tail
 
--- what is wrong with the word that a text begins with, its first byte being b
+-- what is wrong with the word that a text begins with, which stands at the place p: b is its first byte, `more` follows it
 abbrev pub WrongWord : ℕ → List ℕ → ℕ → WordFault → Type 0
-WrongWord b text p (NoWord q) = (q ≡ p) × (is_separator b ≡ false) × ((bytes rest : List ℕ) → b ∷ text ≡ bytes ++ rest → OneWord bytes → ⊥)
-WrongWord b text p (LongName q) = (q ≡ p) × (bytes : List ℕ) × (rest : List ℕ) × (b ∷ text ≡ bytes ++ rest) × Longest bytes rest × Lettered bytes × (longest_name < length bytes)
-WrongWord b text p (LargeInteger q) = (q ≡ p) × (bytes : List ℕ) × (rest : List ℕ) × (b ∷ text ≡ bytes ++ rest) × Longest bytes rest × Digits bytes × ((length bytes ≤ most_digits → decimal_value bytes ≤ largest_integer → ⊥))
+WrongWord b more p (NoWord q) = (q ≡ p) × (is_separator b ≡ false) × ((bytes rest : List ℕ) → b ∷ more ≡ bytes ++ rest → OneWord bytes → ⊥)
+WrongWord b more p (LongName q) = (q ≡ p) × (bytes : List ℕ) × (rest : List ℕ) × (b ∷ more ≡ bytes ++ rest) × Longest bytes rest × Lettered bytes × (longest_name < length bytes)
+WrongWord b more p (LargeInteger q) = (q ≡ p) × (bytes : List ℕ) × (rest : List ℕ) × (b ∷ more ≡ bytes ++ rest) × Longest bytes rest × Digits bytes × (length bytes ≤ most_digits → decimal_value bytes ≤ largest_integer → ⊥)
 
--- the first wrong word of a text: right words before it, then separators, then the word
+-- The first word of the text, whose first byte is at the place p, is wrong: separators, then the word.
+pub record FirstWrong (p : ℕ) (text : List ℕ) (fault : WordFault) : Type 0 where
+  pub gap : List ℕ
+  pub first : ℕ
+  pub more : List ℕ
+  pub parted : text ≡ gap ++ first ∷ more
+  pub blank : Separators gap
+  pub wrong : WrongWord first more (p + length gap) fault
+
+-- the first wrong word of a text, and the right words before it
 pub record Misspelled (text : List ℕ) (fault : WordFault) : Type 0 where
   pub before : List Token
   pub place : ℕ
   pub tail : List ℕ
   pub words : BeginsWith 0 text before place tail
-  pub gap : List ℕ
-  pub first : ℕ
-  pub rest : List ℕ
-  pub parted : tail ≡ gap ++ first ∷ rest
-  pub blank : Separators gap
-  pub wrong : WrongWord first rest (place + length gap) fault
+  pub wrong : FirstWrong place tail fault

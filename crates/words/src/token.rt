@@ -1,4 +1,6 @@
 //! The words of a module text, by kind.
+ghost use Rattle.std.specs.Prelude.{◌≡◌};
+ghost use Rattle.words.specs.Spelling.{keyword_text};
 
 /// A sign, by what it is used for.
 #[derive(Clone, Copy, PartialEq, Eq, Debug)]
@@ -64,6 +66,44 @@ pub enum Keyword {
     Null,
     DeadEnd,
     End,
+}
+
+impl Keyword {
+    /// All keywords.
+    pub(crate) const ALL: [Keyword; 12] = [
+        Keyword::Module,
+        Keyword::Inputs,
+        Keyword::Outputs,
+        Keyword::Memory,
+        Keyword::Buses,
+        Keyword::Body,
+        Keyword::Sequence,
+        Keyword::EndSequence,
+        Keyword::ControlReset,
+        Keyword::Null,
+        Keyword::DeadEnd,
+        Keyword::End,
+    ];
+
+    /// How the keyword is written in capital letters.
+    pub(crate) fn text(self) -> &'static [u8]
+        ensures { result.now ≡ keyword_text self }
+    {
+        match self {
+            Keyword::Module => b"MODULE",
+            Keyword::Inputs => b"INPUTS",
+            Keyword::Outputs => b"OUTPUTS",
+            Keyword::Memory => b"MEMORY",
+            Keyword::Buses => b"BUSES",
+            Keyword::Body => b"BODY",
+            Keyword::Sequence => b"SEQUENCE",
+            Keyword::EndSequence => b"ENDSEQUENCE",
+            Keyword::ControlReset => b"CONTROLRESET",
+            Keyword::Null => b"NULL",
+            Keyword::DeadEnd => b"DEADEND",
+            Keyword::End => b"END",
+        }
+    }
 }
 
 /// What a word is.

@@ -1,0 +1,122 @@
+//! A reader of words.
+ghost use Rattle.std.specs.Prelude.{◌≡◌};
+ghost use Rattle.std.specs.Char.{is_ascii_alphabetic, is_ascii_digit};
+ghost use Rattle.words.specs.Reading.{Starts, Begins, Finds};
+
+use crate::faults::WordFault;
+use crate::front::{gap_len, integer, integer_len, name, name_len, sign_at};
+use crate::token::Kind;
+use std::marker::Model;
+
+/// A word: what it is, the place of its first byte in the text, and the part of the text that it is.
+#[derive(Clone, Copy)]
+pub struct Word<'a> {
+    pub kind: Kind,
+    pub place: usize,
+    pub text: &'a [u8],
+}
+
+/// The words of a text, one after the other.
+#[derive(Drop)]
+pub struct Words<'a> {
+    rest: &'a [u8],
+    place: usize,
+}
+
+// A reader is seen as what is still to be read.
+impl<'a> Model for Words<'a> {
+    ghost use Rattle.std.specs.Prelude.{◌+◌, ◌^◌, ◌<◌, length};
+    ghost use Rattle.words.specs.Reading.{Unread};
+
+    ghost Value = { Unread };
+
+    ghost view = { λ w. record { place = w.place; rest = w.rest.now } };
+
+    ghost invariant = { λ w. w.place + length w.rest.now < 2 ^ 64 };
+}
+
+impl<'a> Words<'a> {
+    ghost use Rattle.words.specs.Reading.{Reads};
+
+    /// At the begin of this text.
+    pub fn new(text: &'a [u8]) -> Words<'a>
+        ensures { result ≡ record { place = 0; rest = text.now } }
+    {
+        Words {
+            rest: text,
+            place: 0,
+        }
+    }
+
+    /// The next word, if there is one. A reader stays before a wrong word.
+    #[tactic(auto, using(crate::proofs::Runs::run_within, crate::proofs::Reading::gap_starts, crate::proofs::Reading::gap_wrong))]
+    pub fn next(&mut self) -> Result<Option<Word<'a>>, WordFault>
+        ensures { Reads self.old result self.new }
+    {
+        let (gap, front) = self.rest.split_at(gap_len(self.rest));
+        let start = self.place + gap.len();
+        if front.is_empty() {
+            self.rest = front;
+            self.place = start;
+            return Ok(None);
+        }
+        let (kind, len) = first_word(front, start)?;
+        let (text, rest) = front.split_at(len);
+        self.rest = rest;
+        self.place = start + len;
+        Ok(Some(Word {
+            kind,
+            place: start,
+            text,
+        }))
+    }
+}
+
+// The word at the front of a text, whose first byte is at the place: what it is, and how many bytes it has.
+#[tactic(auto, using(crate::proofs::Runs::begins_at, crate::proofs::Runs::begins_not))]
+fn first_word(text: &[u8], place: usize) -> Result<(Kind, usize), WordFault>
+    requires { Starts text.now }
+    ensures { Finds text.now place result }
+{
+    match text {
+        [first, ..] if first.is_ascii_alphabetic() => first_name(text, place),
+        [first, ..] if first.is_ascii_digit() => first_integer(text, place),
+        _ => first_sign(text, place),
+    }
+}
+
+// A name or a keyword.
+#[tactic(auto, using(crate::proofs::Fronts::name_bytes, crate::proofs::Fronts::name_right, crate::proofs::Fronts::name_wrong))]
+fn first_name(text: &[u8], place: usize) -> Result<(Kind, usize), WordFault>
+    requires { Begins is_ascii_alphabetic text.now }
+    ensures { Finds text.now place result }
+{
+    let len = name_len(text);
+    let kind = name(&text[..len]).ok_or(WordFault::LongName(place))?;
+    Ok((kind, len))
+}
+
+// An integer.
+#[tactic(auto, using(crate::proofs::Fronts::integer_bytes, crate::proofs::Fronts::integer_right, crate::proofs::Fronts::integer_wrong))]
+fn first_integer(text: &[u8], place: usize) -> Result<(Kind, usize), WordFault>
+    requires { Begins is_ascii_digit text.now }
+    ensures { Finds text.now place result }
+{
+    let len = integer_len(text);
+    let value = integer(&text[..len]).ok_or(WordFault::LargeInteger(place))?;
+    Ok((Kind::Integer(value), len))
+}
+
+// A sign.
+#[tactic(auto, using(crate::proofs::Fronts::sign_wrong))]
+fn first_sign(text: &[u8], place: usize) -> Result<(Kind, usize), WordFault>
+    requires starts { Starts text.now }
+    requires no_letter { ¬ Begins is_ascii_alphabetic text.now }
+    requires no_digit { ¬ Begins is_ascii_digit text.now }
+    ensures { Finds text.now place result }
+{
+    let Some((sign, rest)) = sign_at(text) else {
+        return Err(WordFault::NoWord(place));
+    };
+    Ok((Kind::Mark(sign), text.len() - rest.len()))
+}
