@@ -1,0 +1,21 @@
+-- What the user is told of each fault of reading. Assumes nothing.
+use Rattle.fault.specs.declared.Layer.TheVariants.{Text}
+use Rattle.fault.specs.declared.Refusal.{Refusal}
+use Rattle.words.specs.Faults.{word_told}
+use Rattle.words.specs.declared.faults.TokensFault.{TokensFault}
+use Rattle.words.specs.declared.faults.TokensFault.TheVariants.{OutOfMemory as NoMemory, Word as WordOf}
+use Rattle.text.specs.declared.faults.ReadFault.{ReadFault}
+use Rattle.text.specs.declared.faults.ReadFault.TheVariants.{OutOfMemory, LongText, Word, Unexpected, TooDeep}
+
+-- number, place and layer of each case
+abbrev pub read_told : ReadFault → Refusal
+read_told OutOfMemory = record { number = 0; place = 0; layer = Text }
+read_told LongText = record { number = 2; place = 0; layer = Text }
+read_told (Word f) = word_told f
+read_told (Unexpected p) = record { number = 6; place = p; layer = Text }
+read_told (TooDeep p) = record { number = 7; place = p; layer = Text }
+
+-- a fault of the words, as one of reading
+abbrev pub from_tokens : TokensFault → ReadFault
+from_tokens NoMemory = OutOfMemory
+from_tokens (WordOf f) = Word f
