@@ -45,7 +45,7 @@ IsStopped tokens bytes (Unexpected place) = StopsAt FirstWrong tokens bytes plac
 IsStopped tokens bytes (TooDeep place) = StopsAt FirstDeep tokens bytes place
 
 -- a text that is not too long has words, and they are so
-pub record Reads (text : List ℕ) (Are : List Token → Type 0) : Type 0 where
+pub record HasWords (text : List ℕ) (Are : List Token → Type 0) : Type 0 where
   pub short : length text ≤ longest
   pub tokens : List Token
   pub spelled : Spelled text tokens
@@ -53,15 +53,15 @@ pub record Reads (text : List ℕ) (Are : List Token → Type 0) : Type 0 where
 
 -- the text is a module's, and the draft is that module's
 abbrev pub Accepted : List ℕ → Draft → Type 0
-Accepted text draft = Reads text (λ tokens. IsDraft tokens draft)
+Accepted text draft = HasWords text (λ tokens. IsDraft tokens draft)
 
 -- Why a text is refused: it is too long; or a word is wrong, the first one of the text; or its words are no module's.
 abbrev pub Refused : List ℕ → ReadFault → Type 0
 Refused text OutOfMemory = Unit {0}
 Refused text LongText = longest < length text
 Refused text (Word fault) = (length text ≤ longest) × Misspelled text fault
-Refused text (Unexpected place) = Reads text (λ tokens. StopsAt FirstWrong tokens (length text) place)
-Refused text (TooDeep place) = Reads text (λ tokens. StopsAt FirstDeep tokens (length text) place)
+Refused text (Unexpected place) = HasWords text (λ tokens. StopsAt FirstWrong tokens (length text) place)
+Refused text (TooDeep place) = HasWords text (λ tokens. StopsAt FirstDeep tokens (length text) place)
 
 -- the fault where reading stopped
 abbrev pub stop_fault : Stop → ℕ → ReadFault

@@ -42,6 +42,7 @@ fn fault_at(stop: Stop, rest: &[Token], length: usize) -> ReadFault
 }
 
 // The draft of the module whose words these are, all those of a text of that length; or where they go wrong.
+#[tactic(auto, using(crate::proofs::Words::accepted, crate::proofs::Words::stopped, crate::proofs::Words::left_over))]
 fn module_of(heap: Global, words: &[Token], length: usize) -> Result<Draft, ReadFault>
     ensures accepted { IfOk result (IsDraft words.now) }
     ensures refused { IfErr result (IsStopped words.now length) }
@@ -69,7 +70,7 @@ pub fn parse(heap: Global, text: &[u8]) -> Result<Draft, ReadFault>
     module_of(heap, &words, text.len())
 }
 
-/// The laws of reading. A text has one draft, or one fault beside want of memory, and not both.
+/// The laws of reading. A text has at most one draft, and at most one fault beside want of memory, and not both.
 pub fn read_laws()
     ensures { ReadLaws }
 {}
