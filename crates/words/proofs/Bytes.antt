@@ -157,10 +157,10 @@ pub one_sign : (s t : Sign) → sign_text s ≡ sign_text t → s ≡ t
 one_sign s t e = ap sign_or (sym (sign_back s) ∙ ap sign_at e ∙ sign_back t)
 
 -- a keyword is known by its length and its first two bytes
-abbrev key : List ℕ → ℕ
+abbrev pub key : List ℕ → ℕ
 key bs = length bs + 1000 * (get_or bs 0 0 + 1000 * get_or bs 1 0)
 
-abbrev keyword_of : ℕ → Keyword
+abbrev pub keyword_of : ℕ → Keyword
 keyword_of n = cond (n == 79077006) Module
     (cond (n == 78073006) Inputs
     (cond (n == 85079007) Outputs
@@ -174,7 +174,7 @@ keyword_of n = cond (n == 79077006) Module
     (cond (n == 69068007) DeadEnd
     (End)))))))))))
 
-keyword_back : (k : Keyword) → keyword_of (key (keyword_text k)) ≡ k
+pub keyword_back : (k : Keyword) → keyword_of (key (keyword_text k)) ≡ k
 keyword_back Module = refl
 keyword_back Inputs = refl
 keyword_back Outputs = refl

@@ -8,9 +8,9 @@ use Rattle.words.specs.declared.token.Kind.TheVariants.{Integer, Mark}
 use Rattle.words.specs.declared.faults.WordFault.TheVariants.{NoWord, LongName, LargeInteger}
 use Rattle.words.specs.Spelling.{in_name, Every, sign_text, Lettered, Digits, OneWord, lettered, digits, sign, Longest, Says, longest_name, most_digits, largest_integer, decimal_value}
 use Rattle.words.specs.Signs.{sign_at}
-use Rattle.words.specs.Reading.{Starts, Begins, RightWord, BeginsWrong}
+use Rattle.words.specs.Reading.{Starts, Begins, Stops, RightWord, BeginsWrong}
 use Rattle.words.proofs.Bytes.{lead, first, letter_in_name, lead_lettered, lead_digits, lead_mark, every_right}
-use Rattle.words.proofs.Runs.{Stops, Run, run_at}
+use Rattle.words.proofs.Runs.{Run, run_at}
 use Rattle.words.proofs.Signs.{sign_begins, sign_longest, no_sign}
 
 -- more bytes behind a word that do not go on with it

@@ -9,6 +9,7 @@ use Rattle.words.specs.declared.faults.WordFault.TheVariants.{NoWord, LongName, 
 use Rattle.words.specs.Spelling.{is_separator, Separators, Lettered, Digits, OneWord, Longest, Says, FirstWord, BeginsWith, WrongWord, FirstWrong, longest_name, most_digits, largest_integer, decimal_value}
 use Rattle.words.specs.Laws.{OneSpelling, OneMisspelling, NotBoth, Piece, together, Pieces, Whole, WordLaws}
 use Rattle.words.specs.Reading.{Starts}
+use Rattle.words.proofs.Total.{some_reading}
 use Rattle.words.proofs.Bytes.{lead, first, one_sign, one_keyword, keyword_length, lead_lettered, lead_digits, lead_reserved, lead_mark, word_starts, starts_append, every_right, blank_starts}
 
 -- one fact in place of another that is the same
@@ -232,4 +233,4 @@ pub whole : Whole
 whole text ts x = let z = parted [] text 0 ts x.place x.tail refl x.words in (z.pieces, x.tail, z.right, x.blank, z.whole)
 
 pub word_laws_lem : WordLaws
-word_laws_lem = (one_spelling, one_misspelling, not_both, whole)
+word_laws_lem = (some_reading, one_spelling, one_misspelling, not_both, whole)

@@ -5,4 +5,5 @@ pub mod Runs
 pub mod Signs
 pub mod Fronts
 pub mod Reading
+pub mod Total
 pub mod Laws

@@ -2,12 +2,7 @@
 use Rattle.std.proofs.Common.{◌≡◌, ℕ, ◌+◌, ◌≤◌, Bool, true, false, cond, List, [], ◌∷◌, length, take, drop, get_or, sym, refl, ◌∙◌, subst, true≢false, one-add, arith}
 use Rattle.std.specs.List.{prefix_len}
 use Rattle.words.specs.Spelling.{Every}
-use Rattle.words.specs.Reading.{Begins}
-
--- the text ends, or its first byte does not pass the test
-abbrev pub Stops : (ℕ → Bool) → List ℕ → Type 0
-Stops test [] = Unit {0}
-Stops test (b ∷ bs) = test b ≡ false
+use Rattle.words.specs.Reading.{Begins, Stops}
 
 pub record Run (test : ℕ → Bool) (text : List ℕ) (n : ℕ) : Type 0 where
   pub within : n ≤ length text

@@ -1,10 +1,14 @@
 -- What holds of the words of every text. Assumes nothing.
-use Rattle.std.specs.Prelude.{◌≡◌, ℕ, List, [], ◌∷◌, ◌++◌, length, take, drop}
+use Rattle.std.specs.Prelude.{◌≡◌, ◌⊎◌, ℕ, List, [], ◌∷◌, ◌++◌, length, take, drop}
 use Rattle.words.specs.declared.token.Token.{Token}
 use Rattle.words.specs.declared.faults.WordFault.{WordFault}
 use Rattle.words.specs.Spelling.{Separators, Says, Spelled, Misspelled}
 
--- a text has one list of words at most
+-- each text has a list of words, or a first wrong word
+abbrev pub SomeReading : Type 0
+SomeReading = (text : List ℕ) → ((tokens : List Token) × Spelled text tokens) ⊎ ((fault : WordFault) × Misspelled text fault)
+
+-- it has one list of words at most
 abbrev pub OneSpelling : Type 0
 OneSpelling = (text : List ℕ) (tokens others : List Token) → Spelled text tokens → Spelled text others → tokens ≡ others
 
@@ -38,4 +42,4 @@ abbrev pub Whole : Type 0
 Whole = (text : List ℕ) (tokens : List Token) → Spelled text tokens → (pieces : List Piece) × (tail : List ℕ) × Pieces text pieces tokens × Separators tail × (together pieces tail ≡ text)
 
 abbrev pub WordLaws : Type 0
-WordLaws = OneSpelling × OneMisspelling × NotBoth × Whole
+WordLaws = SomeReading × OneSpelling × OneMisspelling × NotBoth × Whole

@@ -1,5 +1,5 @@
 -- What a reader of words answers. Assumes nothing.
-use Rattle.std.specs.Prelude.{◌≡◌, ℕ, ◌+◌, ◌≤◌, Bool, true, false, List, [], ◌∷◌, length, take, drop, Option, Some, None, Result, Ok, Err}
+use Rattle.std.specs.Prelude.{◌≡◌, ℕ, ◌+◌, ◌≤◌, Bool, true, false, List, [], ◌∷◌, ◌++◌, length, take, drop, Option, Some, None, Result, Ok, Err}
 use Rattle.words.specs.declared.token.Kind.{Kind}
 use Rattle.words.specs.declared.token.Token.{Token}
 use Rattle.words.specs.declared.reader.Word.{Word}
@@ -11,10 +11,21 @@ pub record Unread : Type 0 where
   pub place : ℕ
   pub rest : List ℕ
 
+-- the text ends, or its first byte does not pass the test
+abbrev pub Stops : (ℕ → Bool) → List ℕ → Type 0
+Stops test [] = Unit {0}
+Stops test (b ∷ bs) = test b ≡ false
+
 -- the text begins with a byte that is no separator
 abbrev pub Starts : List ℕ → Type 0
 Starts [] = ⊥
 Starts (b ∷ bs) = is_separator b ≡ false
+
+-- the text is separators, and then a part that does not begin with one
+pub record Gap (text gap front : List ℕ) : Type 0 where
+  pub parted : text ≡ gap ++ front
+  pub blank : Separators gap
+  pub stops : Stops is_separator front
 
 -- the text begins with a byte that passes the test
 abbrev pub Begins : (ℕ → Bool) → List ℕ → Type 0
@@ -36,6 +47,13 @@ BeginsWrong (b ∷ more) p fault = WrongWord b more p fault
 abbrev pub Finds : List ℕ → ℕ → Result (Kind × ℕ) WordFault → Type 0
 Finds text p (Ok word) = RightWord text word.0 word.1
 Finds text p (Err fault) = BeginsWrong text p fault
+
+-- the text, whose first byte is at the place p, begins with this word, which is as long as it can be and says what its bytes say
+pub record Found (text : List ℕ) (p : ℕ) (word : Word) (rest : List ℕ) : Type 0 where
+  pub parted : text ≡ word.text.now ++ rest
+  pub longest : Longest word.text.now rest
+  pub says : Says word.text.now word.kind
+  pub there : word.place ≡ p
 
 -- the word as the grammar sees it
 abbrev pub token_of : Word → Token

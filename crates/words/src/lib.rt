@@ -31,8 +31,8 @@ pub fn tokens(heap: Global, text: &[u8]) -> Result<Vec<Token>, TokensFault>
     Ok(tokens)
 }
 
-/// The laws of words. A text has one list of words, or one first wrong word, and not both. Its words and the separators
-/// between them, put together again in order, are the text.
+/// The laws of words. Each text has a list of words or a first wrong word, only one of either, and not both. Its words
+/// and the separators between them, put together again in order, are the text.
 pub fn word_laws()
     ensures { WordLaws }
 {}

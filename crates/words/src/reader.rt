@@ -1,7 +1,7 @@
 //! A reader of words.
-ghost use Rattle.std.specs.Prelude.{◌≡◌};
+ghost use Rattle.std.specs.Prelude.{◌≡◌, ◌+◌, length, MatchResult};
 ghost use Rattle.std.specs.Char.{is_ascii_alphabetic, is_ascii_digit};
-ghost use Rattle.words.specs.Reading.{Starts, Begins, Finds};
+ghost use Rattle.words.specs.Reading.{Starts, Begins, Gap, Finds, Found, BeginsWrong};
 
 use crate::faults::WordFault;
 use crate::front::{gap_len, integer, integer_len, name, name_len, sign_at};
@@ -9,7 +9,7 @@ use crate::token::Kind;
 use std::marker::Model;
 
 /// A word: what it is, the place of its first byte in the text, and the part of the text that it is.
-#[derive(Clone, Copy)]
+#[derive(Clone, Copy, PartialEq, Eq, Debug)]
 pub struct Word<'a> {
     pub kind: Kind,
     pub place: usize,
@@ -49,32 +49,47 @@ impl<'a> Words<'a> {
     }
 
     /// The next word, if there is one. A reader stays before a wrong word.
-    #[tactic(auto, using(crate::proofs::Runs::run_within, crate::proofs::Reading::gap_starts, crate::proofs::Reading::gap_wrong))]
+    #[tactic(auto, using(crate::proofs::Reading::reads_end, crate::proofs::Reading::gap_starts, crate::proofs::Reading::reads_wrong, crate::proofs::Reading::found_sizes))]
     pub fn next(&mut self) -> Result<Option<Word<'a>>, WordFault>
         ensures { Reads self.old result self.new }
     {
-        let (gap, front) = self.rest.split_at(gap_len(self.rest));
-        let start = self.place + gap.len();
+        let (gap, front) = split_gap(self.rest);
+        let place = self.place + gap.len();
         if front.is_empty() {
             self.rest = front;
-            self.place = start;
+            self.place = place;
             return Ok(None);
         }
-        let (kind, len) = first_word(front, start)?;
-        let (text, rest) = front.split_at(len);
+        let (word, rest) = first_word(front, place)?;
         self.rest = rest;
-        self.place = start + len;
-        Ok(Some(Word {
-            kind,
-            place: start,
-            text,
-        }))
+        self.place = place + word.text.len();
+        Ok(Some(word))
     }
 }
 
-// The word at the front of a text, whose first byte is at the place: what it is, and how many bytes it has.
+// Parts the separators at the front of a text from what follows them.
+#[tactic(auto, using(crate::proofs::Runs::run_within, crate::proofs::Reading::gap_parts))]
+fn split_gap(text: &[u8]) -> (&[u8], &[u8])
+    ensures parts { Gap text.now result.0.now result.1.now }
+    ensures sizes { length result.0.now + length result.1.now ≡ length text.now }
+{
+    text.split_at(gap_len(text))
+}
+
+// The word at the front of a text, whose first byte is at the place, and what follows it.
+#[tactic(auto, using(crate::proofs::Reading::word_parts))]
+fn first_word(text: &[u8], place: usize) -> Result<(Word<'_>, &[u8]), WordFault>
+    requires { Starts text.now }
+    ensures { MatchResult result (λ x. Found text.now place x.0 x.1.now) (BeginsWrong text.now place) }
+{
+    let (kind, len) = kind_and_len(text, place)?;
+    let (text, rest) = text.split_at(len);
+    Ok((Word { kind, place, text }, rest))
+}
+
+// What the word at the front of a text is, and how many bytes it has.
 #[tactic(auto, using(crate::proofs::Runs::begins_at, crate::proofs::Runs::begins_not))]
-fn first_word(text: &[u8], place: usize) -> Result<(Kind, usize), WordFault>
+fn kind_and_len(text: &[u8], place: usize) -> Result<(Kind, usize), WordFault>
     requires { Starts text.now }
     ensures { Finds text.now place result }
 {
