@@ -1,16 +1,21 @@
--- That a text has one answer. Assumes nothing.
-use Rattle.std.proofs.Common.{◌≡◌, ℕ, ◌≤◌, List, [], ◌∷◌, ◌++◌, length, sym, refl, ap, ◌∙◌, subst, append_assoc, append-nil, arith}
+-- That each text has one answer, want of memory aside. Assumes nothing.
+use Rattle.std.proofs.Common.{◌≡◌, ◌≢◌, ◌⊎◌, ℕ, ◌≤◌, List, [], ◌∷◌, ◌++◌, length, sym, refl, ap, ◌∙◌, subst, inl, inr, append_assoc, append-nil, arith}
 use Rattle.words.specs.declared.token.Token.{Token}
 use Rattle.words.specs.Spelling.{Spelled}
 use Rattle.words.proofs.Laws.{one_spelling, one_misspelling, not_both}
-use Rattle.grammar.specs.declared.draft.Draft.{Draft}
+use Rattle.words.proofs.Total.{some_reading}
 use Rattle.grammar.specs.Rules.{unit}
 use Rattle.grammar.specs.Trees.{Tree, words, depth}
-use Rattle.grammar.specs.Drafts.{draft_of}
+use Rattle.grammar.specs.Drafts.{DraftLists, draft_of}
+use Rattle.grammar.specs.Reading.{Out, got, wrong, deep, read}
 use Rattle.grammar.specs.Promise.{deepest, Begins, Continues, ContinuesWithin, FirstWrong, FirstDeep}
+use Rattle.text.specs.declared.faults.ReadFault.{ReadFault}
 use Rattle.text.specs.declared.faults.ReadFault.TheVariants.{OutOfMemory, LongText, Word, Unexpected, TooDeep}
-use Rattle.text.specs.Parsed.{front_place, Accepted, Refused}
-use Rattle.text.specs.Laws.{OneDraft, OneFault, NotBoth, ReadLaws}
+use Rattle.text.specs.Parsed.{front_place, longest, Accepted, Refused}
+use Rattle.cursor.specs.declared.stop.Stop.TheVariants.{Unexpected as Wrong, TooDeep as Deep}
+use Rattle.std.proofs.lemmas.Bool.{cases_lt}
+use Rattle.text.proofs.Words.{accepted, left_over, stopped}
+use Rattle.text.specs.Laws.{SomeAnswer, OneDraft, OneFault, NotBoth, ReadLaws}
 
 -- of two fronts of one list each is the other, or has words more than the other
 data Fronts (a x b y : List Token) : Type 0 where
@@ -97,10 +102,30 @@ not_both_stopped text p q r s =
     let e = one_spelling text s.tokens r.tokens s.spelled r.spelled in
     not_wrong_and_deep r.tokens r.are.rest s.are.rest r.are.stops (subst (λ l. FirstDeep l s.are.rest) e s.are.stops)
 
-not_stopped : (text : List ℕ) (draft : Draft) (place : ℕ) → Accepted text draft → Stopped text place → ⊥
+not_stopped : (text : List ℕ) (draft : DraftLists) (place : ℕ) → Accepted text draft → Stopped text place → ⊥
 not_stopped text draft place a s =
     let e = one_spelling text a.tokens s.tokens a.spelled s.spelled in
     s.halts.stops (goes_on s.tokens s.halts.before s.rest a.are.tree a.are.shallow (a.are.same ∙ e) s.halts.whole)
+
+-- a fault beside want of memory
+abbrev Faulty : List ℕ → Type 0
+Faulty text = (fault : ReadFault) × (fault ≢ OutOfMemory) × Refused text fault
+
+-- the words of a text are a module's, or they stop
+answer : (text : List ℕ) (tokens : List Token) → length text ≤ longest → Spelled text tokens → (o : Out (Tree unit)) → read deepest unit tokens ≡ o → ((draft : DraftLists) × Accepted text draft) ⊎ Faulty text
+answer text tokens short spelled (got t []) e = inl (draft_of t, record { short = short; tokens = tokens; spelled = spelled; are = accepted tokens [] t (draft_of t) (omega arith) e refl })
+answer text tokens short spelled (got t (w ∷ rest)) e = inr (Unexpected w.place, λ q. (cc), record { short = short; tokens = tokens; spelled = spelled; are = left_over tokens (w ∷ rest) (length text) t (omega arith) e })
+answer text tokens short spelled (wrong rest) e = inr (Unexpected (front_place (length text) rest), λ q. (cc), record { short = short; tokens = tokens; spelled = spelled; are = stopped tokens rest (length text) Wrong e })
+answer text tokens short spelled (deep rest) e = inr (TooDeep (front_place (length text) rest), λ q. (cc), record { short = short; tokens = tokens; spelled = spelled; are = stopped tokens rest (length text) Deep e })
+
+pub some_answer : SomeAnswer
+some_answer text = elim (cases_lt longest (length text)) [
+  | inl long ↦ inr (LongText, λ q. (cc), long)
+  | inr short ↦ elim (some_reading text) [
+    | inl (tokens, spelled) ↦ answer text tokens short spelled (read deepest unit tokens) refl
+    | inr (fault, misspelled) ↦ inr (Word fault, λ q. (cc), (short, misspelled))
+  ]
+]
 
 pub one_draft : OneDraft
 one_draft text draft other a b =
@@ -136,4 +161,4 @@ not_accepted_and_refused text draft (Unexpected p) a r = absurd (not_stopped tex
 not_accepted_and_refused text draft (TooDeep p) a r = absurd (not_stopped text draft p a (deep_stopped text p r))
 
 pub read_laws_lem : ReadLaws
-read_laws_lem = (one_draft, one_fault, not_accepted_and_refused)
+read_laws_lem = (some_answer, one_draft, one_fault, not_accepted_and_refused)

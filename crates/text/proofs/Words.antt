@@ -1,10 +1,9 @@
 -- What reading the words of a text as a module tells of them. Assumes nothing.
 use Rattle.std.proofs.Common.{◌≡◌, ℕ, ◌≤◌, ◌<◌, List, [], ◌∷◌, length, sym, refl, ◌∙◌, subst, arith}
 use Rattle.words.specs.declared.token.Token.{Token}
-use Rattle.grammar.specs.declared.draft.Draft.{Draft}
 use Rattle.grammar.specs.Rules.{unit}
 use Rattle.grammar.specs.Trees.{Tree}
-use Rattle.grammar.specs.Drafts.{draft_lists, draft_of}
+use Rattle.grammar.specs.Drafts.{DraftLists, draft_of}
 use Rattle.grammar.specs.Reading.{Out, got, wrong, deep, read}
 use Rattle.grammar.specs.Promise.{deepest}
 use Rattle.grammar.specs.Laws.{Whole}
@@ -20,7 +19,7 @@ whole : (tokens : List Token) (o : Out (Tree unit)) → read deepest unit tokens
 whole tokens o e = subst (Whole tokens) e (reads_whole tokens)
 
 -- all words are read
-pub accepted : (tokens rest : List Token) (t : Tree unit) (draft : Draft) → length rest < 1 → read deepest unit tokens ≡ got t rest → draft_lists draft ≡ draft_of t → IsDraft tokens draft
+pub accepted : (tokens rest : List Token) (t : Tree unit) (draft : DraftLists) → length rest < 1 → read deepest unit tokens ≡ got t rest → draft ≡ draft_of t → IsDraft tokens draft
 accepted tokens (w ∷ rest) t draft none e d = absurd (omega arith)
 accepted tokens [] t draft none e d =
     let w = whole tokens (got t []) e in record {

@@ -2,10 +2,9 @@
 use Rattle.std.specs.Prelude.{◌≡◌, ℕ, ◌<◌, ◌≤◌, List, [], ◌∷◌, length}
 use Rattle.words.specs.declared.token.Token.{Token}
 use Rattle.words.specs.Spelling.{Spelled, Misspelled}
-use Rattle.grammar.specs.declared.draft.Draft.{Draft}
 use Rattle.grammar.specs.Rules.{unit}
 use Rattle.grammar.specs.Trees.{Tree, words, depth}
-use Rattle.grammar.specs.Drafts.{draft_lists, draft_of}
+use Rattle.grammar.specs.Drafts.{DraftLists, draft_of}
 use Rattle.grammar.specs.Promise.{deepest, FirstWrong, FirstDeep}
 use Rattle.cursor.specs.declared.stop.Stop.{Stop}
 use Rattle.cursor.specs.declared.stop.Stop.TheVariants.{Unexpected as Wrong, TooDeep as Deep, OutOfMemory as NoMemory}
@@ -22,11 +21,11 @@ front_place n [] = n
 front_place n (w ∷ ws) = w.place
 
 -- The words are those of a module that nests at most 16 deep, and the draft is that module's. No other module has these words.
-pub record IsDraft (tokens : List Token) (draft : Draft) : Type 0 where
+pub record IsDraft (tokens : List Token) (draft : DraftLists) : Type 0 where
   pub tree : Tree unit
   pub shallow : depth tree ≤ deepest
   pub same : words tree ≡ tokens
-  pub drafted : draft_lists draft ≡ draft_of tree
+  pub drafted : draft ≡ draft_of tree
   pub only : (other : Tree unit) → words other ≡ tokens → other ≡ tree
 
 -- the words go wrong at that place of a text of so many bytes
@@ -52,7 +51,7 @@ pub record HasWords (text : List ℕ) (Are : List Token → Type 0) : Type 0 whe
   pub are : Are tokens
 
 -- the text is a module's, and the draft is that module's
-abbrev pub Accepted : List ℕ → Draft → Type 0
+abbrev pub Accepted : List ℕ → DraftLists → Type 0
 Accepted text draft = HasWords text (λ tokens. IsDraft tokens draft)
 
 -- Why a text is refused: it is too long; or a word is wrong, the first one of the text; or its words are no module's.

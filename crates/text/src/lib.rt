@@ -3,6 +3,7 @@
 #![tactic(auto)]
 
 ghost use Rattle.std.specs.Prelude.{◌≡◌, IfOk, IfErr};
+ghost use Rattle.grammar.specs.Drafts.{draft_lists};
 ghost use Rattle.text.specs.Parsed.{Accepted, Refused, IsDraft, IsStopped, front_place, stop_fault};
 ghost use Rattle.text.specs.Laws.{ReadLaws};
 
@@ -44,7 +45,7 @@ fn fault_at(stop: Stop, rest: &[Token], length: usize) -> ReadFault
 // The draft of the module whose words these are, all those of a text of that length; or where they go wrong.
 #[tactic(auto, using(crate::proofs::Words::accepted, crate::proofs::Words::stopped, crate::proofs::Words::left_over))]
 fn module_of(heap: Global, words: &[Token], length: usize) -> Result<Draft, ReadFault>
-    ensures accepted { IfOk result (IsDraft words.now) }
+    ensures accepted { IfOk result (λ draft. IsDraft words.now (draft_lists draft)) }
     ensures refused { IfErr result (IsStopped words.now length) }
 {
     let mut cursor = Cursor::new(words);
@@ -60,7 +61,7 @@ fn module_of(heap: Global, words: &[Token], length: usize) -> Result<Draft, Read
 
 /// The draft of a module text; or why the text is refused, and where. The text is only looked at.
 pub fn parse(heap: Global, text: &[u8]) -> Result<Draft, ReadFault>
-    ensures accepted { IfOk result (Accepted text.now) }
+    ensures accepted { IfOk result (λ draft. Accepted text.now (draft_lists draft)) }
     ensures refused { IfErr result (Refused text.now) }
 {
     if text.len() > LONGEST {
@@ -70,7 +71,7 @@ pub fn parse(heap: Global, text: &[u8]) -> Result<Draft, ReadFault>
     module_of(heap, &words, text.len())
 }
 
-/// The laws of reading. A text has at most one draft, and at most one fault beside want of memory, and not both.
+/// The laws of reading. Want of memory aside, each text has a draft or a fault, only one of either, and not both.
 pub fn read_laws()
     ensures { ReadLaws }
 {}
