@@ -1,5 +1,5 @@
 //! The readers of declarations and of a whole module.
-#![tactic(auto)]
+#![tactic(auto, using(crate::proofs::Turns::turns))]
 
 ghost use Rattle.std.specs.Prelude.{◌≡◌, ◌<◌, ◌≤◌, ◌||◌, length, OnOk};
 ghost use Rattle.words.specs.declared.token.Sign.TheVariants.{Semicolon};
@@ -20,7 +20,6 @@ use terms::integers;
 use words::{Keyword, Sign};
 
 // Reads the width of a symbol, where one is written.
-#[tactic(auto, using(crate::proofs::Turns::turns))]
 fn width(cursor: &mut Cursor<'_>) -> Result<Option<Number>, Stop>
     ensures told { Told (read deepest width_rule cursor.old) width_of result cursor.new }
     ensures forward { OnOk result (length cursor.new ≤ length cursor.old) }
@@ -35,7 +34,6 @@ fn width(cursor: &mut Cursor<'_>) -> Result<Option<Number>, Stop>
 }
 
 // Reads a symbol of that class.
-#[tactic(auto, using(crate::proofs::Turns::turns))]
 fn item(cursor: &mut Cursor<'_>, class: Class, rows: &mut Rows) -> Result<(), Stop>
     ensures told { Wrote (read deepest item_rule cursor.old) (item_row class) (row_lists rows.old) result cursor.new (row_lists rows.new) }
     ensures forward { OnOk result (length cursor.new < length cursor.old) }
@@ -47,7 +45,6 @@ fn item(cursor: &mut Cursor<'_>, class: Class, rows: &mut Rows) -> Result<(), St
 }
 
 // Reads a further symbol of that class, with the `;` before it.
-#[tactic(auto, using(crate::proofs::Turns::turns))]
 fn next_item(cursor: &mut Cursor<'_>, class: Class, rows: &mut Rows) -> Result<(), Stop>
     ensures told { Wrote (read deepest (mark Semicolon then item_rule) cursor.old) (behind (item_row class)) (row_lists rows.old) result cursor.new (row_lists rows.new) }
     ensures forward { OnOk result (length cursor.new < length cursor.old) }
@@ -57,7 +54,6 @@ fn next_item(cursor: &mut Cursor<'_>, class: Class, rows: &mut Rows) -> Result<(
 }
 
 // Reads the symbols of a declaration of that class.
-#[tactic(auto, using(crate::proofs::Turns::turns))]
 fn items(cursor: &mut Cursor<'_>, class: Class, rows: &mut Rows) -> Result<(), Stop>
     ensures told { Wrote (read deepest (list_of item_rule Semicolon) cursor.old) (item_rows class) (row_lists rows.old) result cursor.new (row_lists rows.new) }
     ensures forward { OnOk result (length cursor.new < length cursor.old) }
@@ -70,7 +66,6 @@ fn items(cursor: &mut Cursor<'_>, class: Class, rows: &mut Rows) -> Result<(), S
 }
 
 // Reads the keyword of a class.
-#[tactic(auto, using(crate::proofs::Turns::turns))]
 fn class(cursor: &mut Cursor<'_>) -> Result<Class, Stop>
     ensures told { Told (read deepest class_rule cursor.old) class_of result cursor.new }
     ensures forward { OnOk result (length cursor.new < length cursor.old) }
@@ -102,7 +97,6 @@ fn at_declaration(cursor: &Cursor<'_>) -> bool
 }
 
 // Reads a declaration.
-#[tactic(auto, using(crate::proofs::Turns::turns))]
 fn declaration(cursor: &mut Cursor<'_>, rows: &mut Rows) -> Result<(), Stop>
     ensures told { Wrote (read deepest decl cursor.old) decl_rows (row_lists rows.old) result cursor.new (row_lists rows.new) }
     ensures forward { OnOk result (length cursor.new < length cursor.old) }
@@ -115,7 +109,6 @@ fn declaration(cursor: &mut Cursor<'_>, rows: &mut Rows) -> Result<(), Stop>
 }
 
 // Reads declarations as long as one stands next.
-#[tactic(auto, using(crate::proofs::Turns::turns))]
 fn declarations(cursor: &mut Cursor<'_>, rows: &mut Rows) -> Result<(), Stop>
     ensures told { Wrote (read deepest (many decl) cursor.old) more_decls (row_lists rows.old) result cursor.new (row_lists rows.new) }
 {
@@ -126,7 +119,6 @@ fn declarations(cursor: &mut Cursor<'_>, rows: &mut Rows) -> Result<(), Stop>
 }
 
 // Reads control steps as long as one stands next.
-#[tactic(auto, using(crate::proofs::Turns::turns))]
 fn steps(cursor: &mut Cursor<'_>, rows: &mut Rows) -> Result<(), Stop>
     ensures told { Wrote (read deepest (many step_rule) cursor.old) more_steps (row_lists rows.old) result cursor.new (row_lists rows.new) }
 {
@@ -137,7 +129,6 @@ fn steps(cursor: &mut Cursor<'_>, rows: &mut Rows) -> Result<(), Stop>
 }
 
 // Reads a connection behind CONTROLRESET, with the `;` before it.
-#[tactic(auto, using(crate::proofs::Turns::turns))]
 fn next_connection(cursor: &mut Cursor<'_>, rows: &mut Rows) -> Result<(), Stop>
     ensures told { Wrote (read deepest (mark Semicolon then conn) cursor.old) (behind conn_rows) (row_lists rows.old) result cursor.new (row_lists rows.new) }
     ensures forward { OnOk result (length cursor.new < length cursor.old) }
@@ -147,7 +138,6 @@ fn next_connection(cursor: &mut Cursor<'_>, rows: &mut Rows) -> Result<(), Stop>
 }
 
 // Reads the connections behind CONTROLRESET.
-#[tactic(auto, using(crate::proofs::Turns::turns))]
 fn connections(cursor: &mut Cursor<'_>, rows: &mut Rows) -> Result<(), Stop>
     ensures told { Wrote (read deepest (many (mark Semicolon then conn)) cursor.old) more_conns (row_lists rows.old) result cursor.new (row_lists rows.new) }
 {
@@ -158,7 +148,6 @@ fn connections(cursor: &mut Cursor<'_>, rows: &mut Rows) -> Result<(), Stop>
 }
 
 // Reads a module from behind the list of CONTROLRESET on.
-#[tactic(auto, using(crate::proofs::Turns::turns))]
 fn closing(cursor: &mut Cursor<'_>, rows: &mut Rows) -> Result<(), Stop>
     ensures told { Wrote (read deepest closing_rule cursor.old) closing_rows (row_lists rows.old) result cursor.new (row_lists rows.new) }
 {
@@ -170,7 +159,6 @@ fn closing(cursor: &mut Cursor<'_>, rows: &mut Rows) -> Result<(), Stop>
 }
 
 // Reads a module from ENDSEQUENCE on: the steps that CONTROLRESET enters, and what is behind them.
-#[tactic(auto, using(crate::proofs::Turns::turns))]
 fn reset(cursor: &mut Cursor<'_>, rows: &mut Rows) -> Result<(), Stop>
     ensures told { Wrote (read deepest reset_rule cursor.old) reset_and_closing_rows (row_lists rows.old) result cursor.new (row_lists rows.new) }
 {
@@ -183,7 +171,6 @@ fn reset(cursor: &mut Cursor<'_>, rows: &mut Rows) -> Result<(), Stop>
 }
 
 // Reads a module from its first control step on.
-#[tactic(auto, using(crate::proofs::Turns::turns))]
 fn control(cursor: &mut Cursor<'_>, rows: &mut Rows) -> Result<(), Stop>
     ensures told { Wrote (read deepest control_rule cursor.old) control_rows (row_lists rows.old) result cursor.new (row_lists rows.new) }
 {
@@ -193,7 +180,6 @@ fn control(cursor: &mut Cursor<'_>, rows: &mut Rows) -> Result<(), Stop>
 }
 
 // Reads a module from BODY on, and answers the clock's name.
-#[tactic(auto, using(crate::proofs::Turns::turns))]
 fn body(cursor: &mut Cursor<'_>, rows: &mut Rows) -> Result<Name, Stop>
     ensures told { Gave (read deepest body_rule cursor.old) body_given (row_lists rows.old) result cursor.new (row_lists rows.new) }
 {
@@ -207,7 +193,6 @@ fn body(cursor: &mut Cursor<'_>, rows: &mut Rows) -> Result<Name, Stop>
 }
 
 // Reads a module from its first declaration on, and answers the clock's name.
-#[tactic(auto, using(crate::proofs::Turns::turns))]
 fn contents(cursor: &mut Cursor<'_>, rows: &mut Rows) -> Result<Name, Stop>
     ensures told { Gave (read deepest contents_rule cursor.old) contents_given (row_lists rows.old) result cursor.new (row_lists rows.new) }
 {
@@ -235,7 +220,6 @@ fn empty_rows(heap: Global) -> Rows
 }
 
 /// Reads a module. What stands behind it is left.
-#[tactic(auto, using(crate::proofs::Turns::turns))]
 pub fn parse_module(heap: Global, cursor: &mut Cursor<'_>) -> Result<Draft, Stop>
     ensures told { Drafted (read deepest unit cursor.old) result cursor.new }
 {
