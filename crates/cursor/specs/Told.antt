@@ -37,3 +37,11 @@ Wrote o f before (Err e) rest after = Stopped o e rest
 abbrev pub Gave : {A V D : Type 0} → Out A → (A → D → V × D) → D → Result V Stop → List Token → D → Type 0
 Gave {A = A} o f before (Ok v) rest after = (t : A) × (o ≡ got t rest) × ((v, after) ≡ f t before)
 Gave o f before (Err e) rest after = Stopped o e rest
+
+-- A reader of tables that had room for a row for each word left: it did not want memory; where it read something, they
+-- have room for a row for each word that is left now, and where it stopped, they still have their memory.
+abbrev pub RoomLeft : {V : Type 0} → Result V Stop → Type 0 → Type 0 → Type 0
+RoomLeft (Ok v) room reserved = room
+RoomLeft (Err Unexpected) room reserved = reserved
+RoomLeft (Err TooDeep) room reserved = reserved
+RoomLeft (Err OutOfMemory) room reserved = ⊥

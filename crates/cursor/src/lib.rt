@@ -1,7 +1,7 @@
 //! A cursor over the words of a text: the next word is looked at, or taken where it is the one that is asked for.
 #![tactic(auto)]
 
-ghost use Rattle.std.specs.Prelude.{◌≡◌, ◌<◌, length, IfErr, OnOk, ◌==◌};
+ghost use Rattle.std.specs.Prelude.{◌≡◌, ◌<◌, length, IfErr, OnErr, OnOk, ◌==◌};
 ghost use Rattle.grammar.specs.Reading.{read_word, plain};
 ghost use Rattle.words.specs.declared.token.Sign.TheVariants.{Dollar};
 ghost use Rattle.grammar.specs.Sorts.{sort, second, sign_sort, starts};
@@ -79,6 +79,7 @@ impl<'a> Cursor<'a> {
         ensures told { Told (read_word (T.rule word) self.old) (T.value word) result self.new }
         ensures forward { OnOk result (length self.new < length self.old) }
         ensures stops { IfErr result (λ e. e ≡ Stop.Unexpected) }
+        ensures stays { OnErr result (self.new ≡ self.old) }
     {
         let [token, rest @ ..] = self.rest else {
             return Err(Stop::Unexpected);

@@ -24,6 +24,7 @@ use Rattle.grammar.specs.declared.draft.Step.{Step}
 use Rattle.grammar.specs.declared.draft.Exit.{Exit}
 use Rattle.grammar.specs.declared.draft.Terms.{Terms}
 use Rattle.grammar.specs.declared.draft.Rows.{Rows}
+use Rattle.grammar.specs.declared.draft.Heading.{Heading}
 use Rattle.grammar.specs.declared.draft.Draft.{Draft}
 use Rattle.grammar.specs.Rules.{group, signed, mark, name, integer, ◌then◌, maybe, many, series, list_of, integers, item, ref, primary, prefix_sign, prefix, and, xor, or, expr, targets, conn, stmt, branch, action, step, class, decl, unit}
 use Rattle.grammar.specs.Trees.{Tree, mark_at, name_at, integer_at, both, none, some, end, more, left, right, one, other, last, closing, next, nested}
@@ -301,12 +302,22 @@ more_steps (more s ss) d = more_steps ss (step_rows s d)
 
 -- the whole module
 pub record DraftLists : Type 0 where
-  pub title : Name
-  pub clock : Name
+  pub heading : Heading
   pub rows : RowLists
 
 abbrev pub draft_lists : Draft → DraftLists
-draft_lists d = record { title = d.title; clock = d.clock; rows = row_lists d.rows }
+draft_lists d = record {
+  heading = d.heading;
+  rows = record {
+    items = d.items.now;
+    steps = d.steps.now;
+    statements = d.statements.now;
+    targets = d.targets.now;
+    exits = d.exits.now;
+    resets = d.resets.now;
+    terms = record { nodes = d.nodes.now; digits = d.digits.now };
+  };
+}
 
 abbrev pub no_rows : RowLists
 no_rows = record { items = []; steps = []; statements = []; targets = []; exits = []; resets = []; terms = record { nodes = []; digits = [] } }
@@ -318,7 +329,6 @@ reset_rows is d = with_resets d (listed is d.resets)
 unfoldable pub draft_of : Tree unit → DraftLists
 draft_of (both a (both b (both n (both c (both d (both ds (both e (both f (both g (both k (both h (both s (both ss (both i (both j (both l (both is (both m (both cs z))))))))))))))))))) =
     record {
-      title = name_of n;
-      clock = name_of k;
+      heading = record { title = name_of n; clock = name_of k };
       rows = more_conns cs (reset_rows is (more_steps ss (step_rows s (more_decls ds (decl_rows d no_rows)))));
     }

@@ -162,7 +162,7 @@ pub struct Terms {
     pub digits: Vec<Listed>,
 }
 
-/// All rows of a draft.
+/// All rows of a draft, as they are written.
 #[derive(Drop)]
 pub struct Rows {
     pub items: Vec<Item>,
@@ -174,10 +174,23 @@ pub struct Rows {
     pub terms: Terms,
 }
 
-/// What a module text says: the module's name, the clock's name, and the rows.
-#[derive(Drop)]
-pub struct Draft {
+/// The names that stand above a module: its own, and its clock's.
+#[derive(Clone, Copy, PartialEq, Eq)]
+pub struct Heading {
     pub title: Name,
     pub clock: Name,
-    pub rows: Rows,
+}
+
+/// What a module text says.
+#[derive(Clone, Copy)]
+pub struct Draft<'a> {
+    pub heading: Heading,
+    pub items: &'a [Item],
+    pub steps: &'a [Step],
+    pub statements: &'a [Statement],
+    pub targets: &'a [Target],
+    pub exits: &'a [Exit],
+    pub resets: &'a [Listed],
+    pub nodes: &'a [Node],
+    pub digits: &'a [Listed],
 }

@@ -4,9 +4,10 @@
 ghost use Rattle.grammar.specs.Laws.{GrammarLaws};
 
 mod draft;
+mod rows;
 
 pub use draft::{
-    Class, Condition, Draft, Exit, Form, Gate, Item, Leaving, Listed, Name, Node, Number,
+    Class, Condition, Draft, Exit, Form, Gate, Heading, Item, Leaving, Listed, Name, Node, Number,
     Reference, Rows, Statement, StatementKind, Step, Subscript, Target, Terms,
 };
 

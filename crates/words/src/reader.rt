@@ -38,7 +38,7 @@ impl<'a> Model for Words<'a> {
 impl<'a> Words<'a> {
     ghost use Rattle.words.specs.Reading.{Reads};
 
-    /// At the begin of this text.
+    /// A reader at the beginning of this text.
     pub fn new(text: &'a [u8]) -> Words<'a>
         ensures { result ≡ record { place = 0; rest = text.now } }
     {

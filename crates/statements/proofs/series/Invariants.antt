@@ -1,0 +1,14 @@
+use Rattle.std.proofs.Common.{◌≤◌, length}
+use Rattle.grammar.specs.Promise.{deepest}
+use Rattle.grammar.specs.Drafts.{row_lists}
+use Rattle.statements.proofs.Turns.{Turns}
+use Rattle.statements.proofs.series.Given as goal
+
+abbrev pub invariant-more : goal.invariant-more
+invariant-more l = record {
+  goes : Turns deepest l.step l.initial.cursor (row_lists l.initial.rows) l.cursor (row_lists l.rows);
+  shorter : length l.cursor ≤ length l.initial.cursor;
+}
+
+abbrev pub decreases-more : goal.decreases-more
+decreases-more l = length l.cursor

@@ -1,0 +1,17 @@
+use Rattle.std.proofs.Common.{◌≤◌, length}
+use Rattle.words.specs.declared.token.Sign.TheVariants.{Comma}
+use Rattle.grammar.specs.Rules.{mark, ref, ◌then◌}
+use Rattle.grammar.specs.Promise.{deepest}
+use Rattle.grammar.specs.Drafts.{row_lists, more_targets}
+use Rattle.cursor.proofs.Steps.{Goes}
+use Rattle.statements.specs.Parts.{next_target_rows}
+use Rattle.statements.proofs.targets.Given as goal
+
+abbrev pub invariant-more : goal.invariant-more
+invariant-more l = record {
+  goes : Goes deepest (mark Comma then ref) more_targets next_target_rows l.initial.cursor (row_lists l.initial.rows) l.cursor (row_lists l.rows);
+  shorter : length l.cursor ≤ length l.initial.cursor;
+}
+
+abbrev pub decreases-more : goal.decreases-more
+decreases-more l = length l.cursor

@@ -1,0 +1,6 @@
+pub mod Commas
+pub mod Subscripts
+pub mod Terms
+pub mod Levels
+pub mod Primaries
+mod Room

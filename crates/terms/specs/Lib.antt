@@ -1,0 +1,2 @@
+pub mod Subscripts
+pub mod Expressions

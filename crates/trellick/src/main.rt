@@ -1,0 +1,127 @@
+//! Reads the module text `module.ahpl` of the folder that it is run in, and prints what it read, or why the text is refused.
+#![tactic(auto)]
+
+use anyhow::Context;
+use fault::Fault;
+use grammar::{Class, Draft, Item, Leaving, Listed, Name, Step};
+use std::alloc::AllocError;
+use std::fs;
+use std::process::ExitCode;
+use text::parse;
+
+/// The file that is read.
+const MODULE: &str = "module.ahpl";
+
+// A module text and its draft, to be printed.
+#[derive(Drop)]
+struct Listing<'a> {
+    rt: &'a HostRuntime,
+    text: &'a [u8],
+    draft: &'a Draft,
+}
+
+impl<'a> Listing<'a> {
+    // A name of the text. Both cases are alike, and names are printed in upper case.
+    fn upper(&self, name: Name) -> Result<String, AllocError> {
+        let mut upper = String::new(self.rt.alloc());
+        for byte in self.text.iter().skip(name.place).take(name.len) {
+            upper.push(char::from(byte.to_ascii_uppercase()))?;
+        }
+        Ok(upper)
+    }
+
+    fn show_item(&self, item: &Item) -> anyhow::Result<()> {
+        let name = self.upper(item.name)?;
+        print!(self.rt; " {name}")?;
+        if let Some(width) = item.width {
+            let bits = width.value;
+            print!(self.rt; "[{bits}]")?;
+        }
+        Ok(())
+    }
+
+    // The symbols of a class, in the order in which they are declared.
+    fn show_class(&self, heading: &str, class: Class) -> anyhow::Result<()> {
+        print!(self.rt; "{heading}")?;
+        for item in self.draft.rows.items.iter() {
+            if item.class == class {
+                self.show_item(item)?;
+            }
+        }
+        println!(self.rt; "")?;
+        Ok(())
+    }
+
+    fn show_step(&self, step: &Step) -> anyhow::Result<()> {
+        let integer = step.integer.value;
+        let leaving = leaving_name(step.leaving);
+        println!(self.rt; "STEP {integer} {leaving}")?;
+        Ok(())
+    }
+
+    fn show_resets(&self, resets: &[Listed]) -> anyhow::Result<()> {
+        print!(self.rt; "CONTROLRESET")?;
+        for reset in resets {
+            let step = reset.integer.value;
+            print!(self.rt; " {step}")?;
+        }
+        println!(self.rt; "")?;
+        Ok(())
+    }
+
+    fn show_counts(&self) -> anyhow::Result<()> {
+        let rows = &self.draft.rows;
+        let statements = rows.statements.len();
+        let targets = rows.targets.len();
+        let exits = rows.exits.len();
+        let nodes = rows.terms.nodes.len();
+        let digits = rows.terms.digits.len();
+        println!(self.rt;
+            "ROWS {statements} statements, {targets} targets, {exits} exits, {nodes} nodes, {digits} digits"
+        )?;
+        Ok(())
+    }
+
+    fn show(&self) -> anyhow::Result<()> {
+        let title = self.upper(self.draft.title)?;
+        let clock = self.upper(self.draft.clock)?;
+        println!(self.rt; "MODULE {title} CLOCK {clock}")?;
+        self.show_class("INPUTS", Class::Input)?;
+        self.show_class("OUTPUTS", Class::Output)?;
+        self.show_class("MEMORY", Class::Memory)?;
+        self.show_class("BUSES", Class::Bus)?;
+        for step in self.draft.rows.steps.iter() {
+            self.show_step(step)?;
+        }
+        self.show_resets(self.draft.rows.resets.as_slice())?;
+        self.show_counts()
+    }
+}
+
+fn leaving_name(leaving: Leaving) -> &'static str {
+    match leaving {
+        Leaving::Next => "NEXT",
+        Leaving::Plain => "BRANCH",
+        Leaving::Conditions(_, _) => "CONDITIONS",
+        Leaving::Dead => "DEADEND",
+    }
+}
+
+fn main(rt: HostRuntime) -> anyhow::Result<ExitCode> {
+    let text = fs::read(&rt, MODULE).context(MODULE)?;
+    match parse(rt.alloc(), text.as_slice()) {
+        Ok(draft) => {
+            let listing = Listing {
+                rt: &rt,
+                text: text.as_slice(),
+                draft: &draft,
+            };
+            listing.show()?;
+            Ok(ExitCode::SUCCESS)
+        }
+        Err(fault) => {
+            rt.println(fault.refusal())?;
+            Ok(ExitCode::FAILURE)
+        }
+    }
+}
