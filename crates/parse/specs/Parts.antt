@@ -4,8 +4,9 @@ use Rattle.words.specs.declared.token.Sign.{Sign}
 use Rattle.words.specs.declared.token.Sign.TheVariants.{Dot, Colon, Semicolon, LeftParen, RightParen, LeftBracket, RightBracket}
 use Rattle.words.specs.declared.token.Keyword.TheVariants.{Body, Sequence, EndSequence, ControlReset, End}
 use Rattle.grammar.specs.declared.draft.Name.{Name}
+use Rattle.grammar.specs.declared.draft.Heading.{Heading}
 use Rattle.grammar.specs.declared.draft.Class.{Class}
-use Rattle.grammar.specs.Rules.{Rule, mark, keyword, name, integer, ◌then◌, maybe, many, integers, item, conn, step, decl}
+use Rattle.grammar.specs.Rules.{Rule, mark, keyword, name, integer, ◌then◌, maybe, many, integers, item, conn, step, decl, unit}
 use Rattle.grammar.specs.Trees.{Tree, both}
 use Rattle.grammar.specs.Drafts.{RowLists, name_of, with_item, item_of, decl_rows, more_decls, step_rows, more_steps, reset_rows, more_conns}
 
@@ -55,3 +56,7 @@ contents = decl then many decl then body
 
 abbrev pub contents_given : Tree contents → RowLists → Name × RowLists
 contents_given (both c (both cs rest)) d = body_given rest (more_decls cs (decl_rows c d))
+
+-- the whole module, with its names
+abbrev pub unit_given : Tree unit → RowLists → Heading × RowLists
+unit_given (both a (both b (both n (both c rest)))) d = (record { title = name_of n; clock = (contents_given rest d).0 }, (contents_given rest d).1)

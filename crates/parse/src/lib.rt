@@ -7,15 +7,13 @@ ghost use Rattle.grammar.specs.Sorts.{sort, starts};
 ghost use Rattle.grammar.specs.Rules.{mark, ◌then◌, many, list_of, conn, item as item_rule, class as class_rule, decl, step as step_rule, unit};
 ghost use Rattle.grammar.specs.Reading.{read};
 ghost use Rattle.grammar.specs.Promise.{deepest};
-ghost use Rattle.grammar.specs.Drafts.{row_lists, no_rows, width_of, item_rows, class_of, decl_rows, more_decls, more_steps, conn_rows, more_conns};
+ghost use Rattle.grammar.specs.Drafts.{row_lists, width_of, item_rows, class_of, decl_rows, more_decls, more_steps, conn_rows, more_conns};
 ghost use Rattle.cursor.specs.Told.{Told, Wrote, Gave};
-ghost use Rattle.parse.specs.Drafted.{Drafted};
-ghost use Rattle.parse.specs.Parts.{width as width_rule, item_row, behind, closing as closing_rule, closing_rows, reset as reset_rule, reset_and_closing_rows, control as control_rule, control_rows, body as body_rule, body_given, contents as contents_rule, contents_given};
+ghost use Rattle.parse.specs.Parts.{width as width_rule, item_row, behind, closing as closing_rule, closing_rows, reset as reset_rule, reset_and_closing_rows, control as control_rule, control_rows, body as body_rule, body_given, contents as contents_rule, contents_given, unit_given};
 
 use cursor::{AnyInteger, AnyName, Cursor, Stop};
-use grammar::{Class, Draft, Item, Name, Number, Rows, Terms};
+use grammar::{Class, Heading, Item, Name, Number, Rows};
 use statements::{connection, step};
-use std::alloc::Global;
 use terms::integers;
 use words::{Keyword, Sign};
 
@@ -201,33 +199,14 @@ fn contents(cursor: &mut Cursor<'_>, rows: &mut Rows) -> Result<Name, Stop>
     body(cursor, rows)
 }
 
-// Tables with no rows.
-fn empty_rows(heap: Global) -> Rows
-    ensures { row_lists result ≡ no_rows }
-{
-    Rows {
-        items: Vec::new(heap),
-        steps: Vec::new(heap),
-        statements: Vec::new(heap),
-        targets: Vec::new(heap),
-        exits: Vec::new(heap),
-        resets: Vec::new(heap),
-        terms: Terms {
-            nodes: Vec::new(heap),
-            digits: Vec::new(heap),
-        },
-    }
-}
-
-/// Reads a module. What stands behind it is left.
-pub fn parse_module(heap: Global, cursor: &mut Cursor<'_>) -> Result<Draft, Stop>
-    ensures told { Drafted (read deepest unit cursor.old) result cursor.new }
+/// Reads a module: its rows come behind those that stand already, and its names are answered. What stands behind it is left.
+pub fn parse_module(cursor: &mut Cursor<'_>, rows: &mut Rows) -> Result<Heading, Stop>
+    ensures told { Gave (read deepest unit cursor.old) unit_given (row_lists rows.old) result cursor.new (row_lists rows.new) }
 {
     cursor.take(Keyword::Module)?;
     cursor.take(Sign::Colon)?;
     let title = cursor.take(AnyName)?;
     cursor.take(Sign::Dot)?;
-    let mut rows = empty_rows(heap);
-    let clock = contents(cursor, &mut rows)?;
-    Ok(Draft { title, clock, rows })
+    let clock = contents(cursor, rows)?;
+    Ok(Heading { title, clock })
 }

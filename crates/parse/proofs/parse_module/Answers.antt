@@ -1,9 +1,15 @@
 use Rattle.grammar.specs.Promise.{deepest}
 use Rattle.grammar.specs.Trees.{both}
 use Rattle.grammar.specs.Drafts.{row_lists}
-use Rattle.parse.proofs.Turns.{word_then}
-use Rattle.parse.proofs.Drafts.{draft_made}
+use Rattle.parse.proofs.Turns.{word_then, pair_is}
+use Rattle.std.proofs.Common.{◌≡◌, ap}
+use Rattle.grammar.specs.declared.draft.Name.{Name}
+use Rattle.grammar.specs.declared.draft.Heading.{Heading}
+use Rattle.grammar.specs.Drafts.{RowLists}
 use Rattle.parse.proofs.parse_module.Goals as goal
+
+headed : {a b c d : Name} → a ≡ c → b ≡ d → ◌≡◌ {A = Heading} (record { title = a; clock = b }) (record { title = c; clock = d })
+headed p q = cc
 
 pub returns : goal.returns
 returns c =
@@ -16,6 +22,6 @@ returns c =
         both head.0 (both colon.0 (both title.0 (both dot.0 contents.0))),
         word_then deepest _ _ tt _ _ _ _ _ head.1 (word_then deepest _ _ tt _ _ _ _ _ colon.1
             (word_then deepest _ _ tt _ _ _ _ _ title.1 (word_then deepest _ _ tt _ _ _ _ _ dot.1 contents.1))),
-        draft_made c.in_ok-title.title c.in_ok-clock.clock (row_lists c.contents.new.rows) (row_lists c.empty_rows-rows.result) head.0 colon.0 title.0 dot.0 contents.0 title.2 contents.2 c.empty_rows-rows.ensures,
+        pair_is (headed title.2 (ap (λ (x : Name × RowLists). x.0) contents.2)) (ap (λ (x : Name × RowLists). x.1) contents.2),
       );
     }
