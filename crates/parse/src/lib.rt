@@ -1,14 +1,15 @@
 //! The readers of declarations and of a whole module.
 #![tactic(auto, using(crate::proofs::Turns::turns))]
 
-ghost use Rattle.std.specs.Prelude.{◌≡◌, ◌<◌, ◌≤◌, ◌||◌, length, OnOk};
+ghost use Rattle.std.specs.Prelude.{◌≡◌, ℕ, ◌+◌, ◌<◌, ◌≤◌, ◌||◌, length, OnOk, IfErr};
 ghost use Rattle.words.specs.declared.token.Sign.TheVariants.{Semicolon};
 ghost use Rattle.grammar.specs.Sorts.{sort, starts};
 ghost use Rattle.grammar.specs.Rules.{mark, ◌then◌, many, list_of, conn, item as item_rule, class as class_rule, decl, step as step_rule, unit};
 ghost use Rattle.grammar.specs.Reading.{read};
 ghost use Rattle.grammar.specs.Promise.{deepest};
 ghost use Rattle.grammar.specs.Drafts.{row_lists, width_of, item_rows, class_of, decl_rows, more_decls, more_steps, conn_rows, more_conns};
-ghost use Rattle.cursor.specs.Told.{Told, Wrote, Gave};
+ghost use Rattle.grammar.specs.Room.{RowsRoom, RowsReserved};
+ghost use Rattle.cursor.specs.Told.{Told, Wrote, Gave, RoomLeft};
 ghost use Rattle.parse.specs.Parts.{width as width_rule, item_row, behind, closing as closing_rule, closing_rows, reset as reset_rule, reset_and_closing_rows, control as control_rule, control_rows, body as body_rule, body_given, contents as contents_rule, contents_given, unit_given};
 
 use cursor::{AnyInteger, AnyName, Cursor, Stop};
@@ -21,6 +22,7 @@ use words::{Keyword, Sign};
 fn width(cursor: &mut Cursor<'_>) -> Result<Option<Number>, Stop>
     ensures told { Told (read deepest width_rule cursor.old) width_of result cursor.new }
     ensures forward { OnOk result (length cursor.new ≤ length cursor.old) }
+    ensures stops { IfErr result (λ e. e ≡ Stop.Unexpected) }
 {
     if !cursor.at(Sign::LeftBracket) {
         return Ok(None);
@@ -35,6 +37,7 @@ fn width(cursor: &mut Cursor<'_>) -> Result<Option<Number>, Stop>
 fn item(cursor: &mut Cursor<'_>, class: Class, rows: &mut Rows) -> Result<(), Stop>
     ensures told { Wrote (read deepest item_rule cursor.old) (item_row class) (row_lists rows.old) result cursor.new (row_lists rows.new) }
     ensures forward { OnOk result (length cursor.new < length cursor.old) }
+    ensures room { (limit slack : ℕ) → RowsRoom limit (length cursor.old + slack) rows.old → RoomLeft result (RowsRoom limit (length cursor.new + slack) rows.new) (RowsReserved limit rows.new) }
 {
     let name = cursor.take(AnyName)?;
     let width = width(cursor)?;
@@ -46,6 +49,7 @@ fn item(cursor: &mut Cursor<'_>, class: Class, rows: &mut Rows) -> Result<(), St
 fn next_item(cursor: &mut Cursor<'_>, class: Class, rows: &mut Rows) -> Result<(), Stop>
     ensures told { Wrote (read deepest (mark Semicolon then item_rule) cursor.old) (behind (item_row class)) (row_lists rows.old) result cursor.new (row_lists rows.new) }
     ensures forward { OnOk result (length cursor.new < length cursor.old) }
+    ensures room { (limit slack : ℕ) → RowsRoom limit (length cursor.old + slack) rows.old → RoomLeft result (RowsRoom limit (length cursor.new + slack) rows.new) (RowsReserved limit rows.new) }
 {
     cursor.take(Sign::Semicolon)?;
     item(cursor, class, rows)
@@ -55,6 +59,7 @@ fn next_item(cursor: &mut Cursor<'_>, class: Class, rows: &mut Rows) -> Result<(
 fn items(cursor: &mut Cursor<'_>, class: Class, rows: &mut Rows) -> Result<(), Stop>
     ensures told { Wrote (read deepest (list_of item_rule Semicolon) cursor.old) (item_rows class) (row_lists rows.old) result cursor.new (row_lists rows.new) }
     ensures forward { OnOk result (length cursor.new < length cursor.old) }
+    ensures room { (limit slack : ℕ) → RowsRoom limit (length cursor.old + slack) rows.old → RoomLeft result (RowsRoom limit (length cursor.new + slack) rows.new) (RowsReserved limit rows.new) }
 {
     item(cursor, class, rows)?;
     while cursor.at(Sign::Semicolon) {
@@ -67,6 +72,7 @@ fn items(cursor: &mut Cursor<'_>, class: Class, rows: &mut Rows) -> Result<(), S
 fn class(cursor: &mut Cursor<'_>) -> Result<Class, Stop>
     ensures told { Told (read deepest class_rule cursor.old) class_of result cursor.new }
     ensures forward { OnOk result (length cursor.new < length cursor.old) }
+    ensures stops { IfErr result (λ e. e ≡ Stop.Unexpected) }
 {
     if cursor.at(Keyword::Inputs) {
         cursor.take(Keyword::Inputs)?;
@@ -98,6 +104,7 @@ fn at_declaration(cursor: &Cursor<'_>) -> bool
 fn declaration(cursor: &mut Cursor<'_>, rows: &mut Rows) -> Result<(), Stop>
     ensures told { Wrote (read deepest decl cursor.old) decl_rows (row_lists rows.old) result cursor.new (row_lists rows.new) }
     ensures forward { OnOk result (length cursor.new < length cursor.old) }
+    ensures room { (limit slack : ℕ) → RowsRoom limit (length cursor.old + slack) rows.old → RoomLeft result (RowsRoom limit (length cursor.new + slack) rows.new) (RowsReserved limit rows.new) }
 {
     let class = class(cursor)?;
     cursor.take(Sign::Colon)?;
@@ -109,6 +116,8 @@ fn declaration(cursor: &mut Cursor<'_>, rows: &mut Rows) -> Result<(), Stop>
 // Reads declarations as long as one stands next.
 fn declarations(cursor: &mut Cursor<'_>, rows: &mut Rows) -> Result<(), Stop>
     ensures told { Wrote (read deepest (many decl) cursor.old) more_decls (row_lists rows.old) result cursor.new (row_lists rows.new) }
+    ensures forward { OnOk result (length cursor.new ≤ length cursor.old) }
+    ensures room { (limit slack : ℕ) → RowsRoom limit (length cursor.old + slack) rows.old → RoomLeft result (RowsRoom limit (length cursor.new + slack) rows.new) (RowsReserved limit rows.new) }
 {
     while at_declaration(cursor) {
         declaration(cursor, rows)?;

@@ -15,6 +15,7 @@ pub loop-class-init : goal.loop-class-init
 loop-class-init c = record {
   went = goes_start deepest (mark Semicolon then item) (more_items c.args.class) (behind (item_row c.args.class)) c.item.new.cursor (row_lists c.item.new.rows);
   on = omega arith;
+  room = λ limit slack r. r;
 }
 
 pub loop-class-preserved : goal.loop-class-preserved
@@ -23,6 +24,7 @@ loop-class-preserved c =
       went = goes_turn deepest (mark Semicolon then item) (more_items c.args.class) (behind (item_row c.args.class)) c.item.new.cursor (row_lists c.item.new.rows)
           (more_items-more c.args.class) c.loop-class.cursor (row_lists c.loop-class.rows) c.loop-class.invariant.went (grind (arith, common_steps)) t _ reads c.in_ok-next_item.ensures.forward (row_lists c.next_item.new.rows) wrote;
       on = omega (arith, c.loop-class.invariant.on, c.in_ok-next_item.ensures.forward);
+      room = λ limit slack r. c.in_ok-next_item.ensures.room limit slack (c.loop-class.invariant.room limit slack r);
     }
 
 pub returns-in_err-next_item-clause-told : goal.returns-in_err-next_item-clause-told
@@ -43,3 +45,11 @@ returns-clause-told c =
 
 pub returns-clause-forward : goal.returns-clause-forward
 returns-clause-forward c = omega (arith, c.loop-class.invariant.on, c.in_ok-item.ensures.forward)
+
+pub returns-in_err-next_item-clause-room : goal.returns-in_err-next_item-clause-room
+returns-in_err-next_item-clause-room c = λ limit slack r.
+    let p = err_from_is_err_and c.from_residual-in_err-next_item.result c.from_residual-in_err-next_item.ensures.1 in
+    rw (p.1, p.2) (c.in_err-next_item.ensures.room limit slack (c.loop-class.invariant.room limit slack (c.in_ok-item.ensures.room limit slack r)))
+
+pub returns-clause-room : goal.returns-clause-room
+returns-clause-room c = λ limit slack r. c.loop-class.invariant.room limit slack (c.in_ok-item.ensures.room limit slack r)
