@@ -128,6 +128,8 @@ fn declarations(cursor: &mut Cursor<'_>, rows: &mut Rows) -> Result<(), Stop>
 // Reads control steps as long as one stands next.
 fn steps(cursor: &mut Cursor<'_>, rows: &mut Rows) -> Result<(), Stop>
     ensures told { Wrote (read deepest (many step_rule) cursor.old) more_steps (row_lists rows.old) result cursor.new (row_lists rows.new) }
+    ensures forward { OnOk result (length cursor.new ≤ length cursor.old) }
+    ensures room { (limit slack : ℕ) → RowsRoom limit (length cursor.old + slack) rows.old → RoomLeft result (RowsRoom limit (length cursor.new + slack) rows.new) (RowsReserved limit rows.new) }
 {
     while cursor.at(AnyInteger) {
         step(cursor, rows)?;
@@ -139,6 +141,7 @@ fn steps(cursor: &mut Cursor<'_>, rows: &mut Rows) -> Result<(), Stop>
 fn next_connection(cursor: &mut Cursor<'_>, rows: &mut Rows) -> Result<(), Stop>
     ensures told { Wrote (read deepest (mark Semicolon then conn) cursor.old) (behind conn_rows) (row_lists rows.old) result cursor.new (row_lists rows.new) }
     ensures forward { OnOk result (length cursor.new < length cursor.old) }
+    ensures room { (limit slack : ℕ) → RowsRoom limit (length cursor.old + slack) rows.old → RoomLeft result (RowsRoom limit (length cursor.new + slack) rows.new) (RowsReserved limit rows.new) }
 {
     cursor.take(Sign::Semicolon)?;
     connection(cursor, rows)
@@ -147,6 +150,8 @@ fn next_connection(cursor: &mut Cursor<'_>, rows: &mut Rows) -> Result<(), Stop>
 // Reads the connections behind CONTROLRESET.
 fn connections(cursor: &mut Cursor<'_>, rows: &mut Rows) -> Result<(), Stop>
     ensures told { Wrote (read deepest (many (mark Semicolon then conn)) cursor.old) more_conns (row_lists rows.old) result cursor.new (row_lists rows.new) }
+    ensures forward { OnOk result (length cursor.new ≤ length cursor.old) }
+    ensures room { (limit slack : ℕ) → RowsRoom limit (length cursor.old + slack) rows.old → RoomLeft result (RowsRoom limit (length cursor.new + slack) rows.new) (RowsReserved limit rows.new) }
 {
     while cursor.at(Sign::Semicolon) {
         next_connection(cursor, rows)?;
@@ -157,6 +162,7 @@ fn connections(cursor: &mut Cursor<'_>, rows: &mut Rows) -> Result<(), Stop>
 // Reads a module from behind the list of CONTROLRESET on.
 fn closing(cursor: &mut Cursor<'_>, rows: &mut Rows) -> Result<(), Stop>
     ensures told { Wrote (read deepest closing_rule cursor.old) closing_rows (row_lists rows.old) result cursor.new (row_lists rows.new) }
+    ensures room { (limit slack : ℕ) → RowsRoom limit (length cursor.old + slack) rows.old → RoomLeft result (RowsRoom limit (length cursor.new + slack) rows.new) (RowsReserved limit rows.new) }
 {
     connections(cursor, rows)?;
     cursor.take(Sign::Dot)?;
@@ -168,6 +174,7 @@ fn closing(cursor: &mut Cursor<'_>, rows: &mut Rows) -> Result<(), Stop>
 // Reads a module from ENDSEQUENCE on: the steps that CONTROLRESET enters, and what is behind them.
 fn reset(cursor: &mut Cursor<'_>, rows: &mut Rows) -> Result<(), Stop>
     ensures told { Wrote (read deepest reset_rule cursor.old) reset_and_closing_rows (row_lists rows.old) result cursor.new (row_lists rows.new) }
+    ensures room { (limit slack : ℕ) → RowsRoom limit (length cursor.old + slack) rows.old → RoomLeft result (RowsRoom limit (length cursor.new + slack) rows.new) (RowsReserved limit rows.new) }
 {
     cursor.take(Keyword::EndSequence)?;
     cursor.take(Keyword::ControlReset)?;
@@ -180,6 +187,7 @@ fn reset(cursor: &mut Cursor<'_>, rows: &mut Rows) -> Result<(), Stop>
 // Reads a module from its first control step on.
 fn control(cursor: &mut Cursor<'_>, rows: &mut Rows) -> Result<(), Stop>
     ensures told { Wrote (read deepest control_rule cursor.old) control_rows (row_lists rows.old) result cursor.new (row_lists rows.new) }
+    ensures room { (limit slack : ℕ) → RowsRoom limit (length cursor.old + slack) rows.old → RoomLeft result (RowsRoom limit (length cursor.new + slack) rows.new) (RowsReserved limit rows.new) }
 {
     step(cursor, rows)?;
     steps(cursor, rows)?;
@@ -189,6 +197,7 @@ fn control(cursor: &mut Cursor<'_>, rows: &mut Rows) -> Result<(), Stop>
 // Reads a module from BODY on, and answers the clock's name.
 fn body(cursor: &mut Cursor<'_>, rows: &mut Rows) -> Result<Name, Stop>
     ensures told { Gave (read deepest body_rule cursor.old) body_given (row_lists rows.old) result cursor.new (row_lists rows.new) }
+    ensures room { (limit slack : ℕ) → RowsRoom limit (length cursor.old + slack) rows.old → RoomLeft result (RowsRoom limit (length cursor.new + slack) rows.new) (RowsReserved limit rows.new) }
 {
     cursor.take(Keyword::Body)?;
     cursor.take(Keyword::Sequence)?;
@@ -202,6 +211,7 @@ fn body(cursor: &mut Cursor<'_>, rows: &mut Rows) -> Result<Name, Stop>
 // Reads a module from its first declaration on, and answers the clock's name.
 fn contents(cursor: &mut Cursor<'_>, rows: &mut Rows) -> Result<Name, Stop>
     ensures told { Gave (read deepest contents_rule cursor.old) contents_given (row_lists rows.old) result cursor.new (row_lists rows.new) }
+    ensures room { (limit slack : ℕ) → RowsRoom limit (length cursor.old + slack) rows.old → RoomLeft result (RowsRoom limit (length cursor.new + slack) rows.new) (RowsReserved limit rows.new) }
 {
     declaration(cursor, rows)?;
     declarations(cursor, rows)?;
@@ -211,6 +221,7 @@ fn contents(cursor: &mut Cursor<'_>, rows: &mut Rows) -> Result<Name, Stop>
 /// Reads a module: its rows come behind those that stand already, and its names are answered. What stands behind it is left.
 pub fn parse_module(cursor: &mut Cursor<'_>, rows: &mut Rows) -> Result<Heading, Stop>
     ensures told { Gave (read deepest unit cursor.old) unit_given (row_lists rows.old) result cursor.new (row_lists rows.new) }
+    ensures room { (limit slack : ℕ) → RowsRoom limit (length cursor.old + slack) rows.old → RoomLeft result (RowsRoom limit (length cursor.new + slack) rows.new) (RowsReserved limit rows.new) }
 {
     cursor.take(Keyword::Module)?;
     cursor.take(Sign::Colon)?;

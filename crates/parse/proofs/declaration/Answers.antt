@@ -4,7 +4,7 @@ use Rattle.grammar.specs.Trees.{both}
 use Rattle.grammar.specs.Drafts.{row_lists, item_rows}
 use Rattle.cursor.proofs.Steps.{word_is, then_got}
 use Rattle.parse.proofs.Turns.{word_then}
-use Rattle.parse.proofs.Room.{room_less}
+use Rattle.statements.proofs.Room.{room_less}
 use Rattle.parse.proofs.declaration.Goals as goal
 
 pub returns-clause-told : goal.returns-clause-told

@@ -24,12 +24,12 @@ pub returns-in_err-declaration-clause-told : goal.returns-in_err-declaration-cla
 returns-in_err-declaration-clause-told c =
     let p = err_from_is_err_and c.from_residual.result c.from_residual.ensures.1 in
     rw (p.1, p.2)
-          (goes_stop deepest decl more_decls decl_rows c.args.cursor.now (row_lists c.args.rows.now)
-          c.loop-cursor.cursor (row_lists c.loop-cursor.rows) c.loop-cursor.invariant.went (grind (arith, common_steps)) (grind (arith, common_steps)) _ _ c.in_err-declaration.ensures.told)
+    (goes_stop deepest decl more_decls decl_rows c.args.cursor.now (row_lists c.args.rows.now)
+    c.loop-cursor.cursor (row_lists c.loop-cursor.rows) c.loop-cursor.invariant.went (grind (arith, common_steps)) (grind (arith, common_steps)) _ _ c.in_err-declaration.ensures.told)
 
 pub returns-clause-told : goal.returns-clause-told
 returns-clause-told c = goes_end deepest decl more_decls decl_rows c.args.cursor.now (row_lists c.args.rows.now)
-      (λ d. refl) c.loop-cursor.cursor (row_lists c.loop-cursor.rows) c.loop-cursor.invariant.went (grind (arith, common_steps))
+    (λ d. refl) c.loop-cursor.cursor (row_lists c.loop-cursor.rows) c.loop-cursor.invariant.went (grind (arith, common_steps))
 
 pub returns-in_err-declaration-clause-room : goal.returns-in_err-declaration-clause-room
 returns-in_err-declaration-clause-room c = λ limit slack r.
