@@ -14,7 +14,7 @@ use Rattle.text.specs.declared.faults.ReadFault.TheVariants.{OutOfMemory, LongTe
 use Rattle.text.specs.Parsed.{front_place, longest, Accepted, Refused}
 use Rattle.cursor.specs.declared.stop.Stop.TheVariants.{Unexpected as Wrong, TooDeep as Deep}
 use Rattle.std.proofs.lemmas.Bool.{cases_lt}
-use Rattle.text.proofs.Words.{accepted, left_over, stopped}
+use Rattle.text.proofs.Words.{whole_module, left_over, stopped}
 use Rattle.text.specs.Laws.{SomeAnswer, OneDraft, OneFault, NotBoth, ReadLaws}
 
 -- of two fronts of one list each is the other, or has words more than the other
@@ -113,7 +113,7 @@ Faulty text = (fault : ReadFault) × (fault ≢ OutOfMemory) × Refused text fau
 
 -- the words of a text are a module's, or they stop
 answer : (text : List ℕ) (tokens : List Token) → length text ≤ longest → Spelled text tokens → (o : Out (Tree unit)) → read deepest unit tokens ≡ o → ((draft : DraftLists) × Accepted text draft) ⊎ Faulty text
-answer text tokens short spelled (got t []) e = inl (draft_of t, record { short = short; tokens = tokens; spelled = spelled; are = accepted tokens [] t (draft_of t) (omega arith) e refl })
+answer text tokens short spelled (got t []) e = inl (draft_of t, record { short = short; tokens = tokens; spelled = spelled; are = whole_module tokens t (draft_of t) e refl })
 answer text tokens short spelled (got t (w ∷ rest)) e = inr (Unexpected w.place, λ q. (cc), record { short = short; tokens = tokens; spelled = spelled; are = left_over tokens (w ∷ rest) (length text) t (omega arith) e })
 answer text tokens short spelled (wrong rest) e = inr (Unexpected (front_place (length text) rest), λ q. (cc), record { short = short; tokens = tokens; spelled = spelled; are = stopped tokens rest (length text) Wrong e })
 answer text tokens short spelled (deep rest) e = inr (TooDeep (front_place (length text) rest), λ q. (cc), record { short = short; tokens = tokens; spelled = spelled; are = stopped tokens rest (length text) Deep e })

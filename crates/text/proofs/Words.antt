@@ -1,9 +1,12 @@
 -- What reading the words of a text as a module tells of them. Assumes nothing.
-use Rattle.std.proofs.Common.{◌≡◌, ℕ, ◌≤◌, ◌<◌, List, [], ◌∷◌, length, sym, refl, ◌∙◌, subst, arith}
+use Rattle.std.proofs.Common.{◌≡◌, ℕ, ◌≤◌, ◌<◌, List, [], ◌∷◌, length, sym, refl, ap, ◌∙◌, subst, arith}
 use Rattle.words.specs.declared.token.Token.{Token}
 use Rattle.grammar.specs.Rules.{unit}
 use Rattle.grammar.specs.Trees.{Tree}
-use Rattle.grammar.specs.Drafts.{DraftLists, draft_of}
+use Rattle.grammar.specs.Drafts.{RowLists, DraftLists, no_rows, draft_of}
+use Rattle.grammar.specs.declared.draft.Heading.{Heading}
+use Rattle.parse.specs.Parts.{unit_given}
+use Rattle.parse.proofs.Drafts.{draft_is}
 use Rattle.grammar.specs.Reading.{Out, got, wrong, deep, read}
 use Rattle.grammar.specs.Promise.{deepest}
 use Rattle.grammar.specs.Laws.{Whole}
@@ -19,9 +22,8 @@ whole : (tokens : List Token) (o : Out (Tree unit)) → read deepest unit tokens
 whole tokens o e = subst (Whole tokens) e (reads_whole tokens)
 
 -- all words are read
-pub accepted : (tokens rest : List Token) (t : Tree unit) (draft : DraftLists) → length rest < 1 → read deepest unit tokens ≡ got t rest → draft ≡ draft_of t → IsDraft tokens draft
-accepted tokens (w ∷ rest) t draft none e d = absurd (omega arith)
-accepted tokens [] t draft none e d =
+pub whole_module : (tokens : List Token) (t : Tree unit) (draft : DraftLists) → read deepest unit tokens ≡ got t [] → draft ≡ draft_of t → IsDraft tokens draft
+whole_module tokens t draft e d =
     let w = whole tokens (got t []) e in record {
       tree = t;
       shallow = w.1;
@@ -29,6 +31,15 @@ accepted tokens [] t draft none e d =
       drafted = d;
       only = λ other same. unambiguous other t (same ∙ sym w.0);
     }
+
+draft_made : (t : Tree unit) (heading : Heading) (rows before : RowLists) → ◌≡◌ {A = Heading × RowLists} (heading, rows) (unit_given t before) → before ≡ no_rows → ◌≡◌ {A = DraftLists} (record { heading = heading; rows = rows }) (draft_of t)
+draft_made t heading rows before p q =
+    let made : ◌≡◌ {A = Heading × RowLists} (heading, rows) (unit_given t no_rows) = p ∙ ap (unit_given t) q in
+    ap (λ (x : Heading × RowLists). let d : DraftLists = record { heading = x.0; rows = x.1 } in d) made ∙ draft_is t
+
+pub accepted : (tokens rest : List Token) (t : Tree unit) (heading : Heading) (rows before : RowLists) → length rest < 1 → read deepest unit tokens ≡ got t rest → ◌≡◌ {A = Heading × RowLists} (heading, rows) (unit_given t before) → before ≡ no_rows → IsDraft tokens (record { heading = heading; rows = rows })
+accepted tokens (w ∷ rest) t heading rows before none e p q = absurd (omega arith)
+accepted tokens [] t heading rows before none e p q = whole_module tokens t (record { heading = heading; rows = rows }) e (draft_made t heading rows before p q)
 
 -- words are left behind a module
 pub left_over : (tokens rest : List Token) (n : ℕ) (t : Tree unit) → 1 ≤ length rest → read deepest unit tokens ≡ got t rest → IsStopped tokens n (Unexpected (front_place n rest))

@@ -2,16 +2,17 @@
 //! rule of a module is held against it.
 #![tactic(auto)]
 
-ghost use Rattle.std.specs.Prelude.{◌≡◌, IfOk, IfErr};
-ghost use Rattle.grammar.specs.Drafts.{draft_lists};
+ghost use Rattle.std.specs.Prelude.{◌≡◌, ◌≢◌, ◌≤◌, ℕ, length, IfOk, IfErr};
+ghost use Rattle.grammar.specs.Drafts.{row_lists};
+ghost use Rattle.grammar.specs.Room.{Reserved, RowsReserved};
+ghost use Rattle.text.specs.declared.faults.ReadFault.TheVariants.{OutOfMemory};
 ghost use Rattle.text.specs.Parsed.{Accepted, Refused, IsDraft, IsStopped, front_place, stop_fault};
 ghost use Rattle.text.specs.Laws.{ReadLaws};
 
 use cursor::{Cursor, Stop};
-use grammar::Draft;
+use grammar::{Heading, Rows};
 use parse::parse_module;
-use std::alloc::Global;
-use words::{Token, tokens};
+use words::{Token, read_tokens};
 
 mod faults;
 
@@ -42,33 +43,39 @@ fn fault_at(stop: Stop, rest: &[Token], length: usize) -> ReadFault
     }
 }
 
-// The draft of the module whose words these are, all those of a text of that length; or where they go wrong.
+// Reads the module whose words these are, all those of a text of that length, into the rows, in place of those that they had; or
+// finds where the words go wrong.
 #[tactic(auto, using(crate::proofs::Words::accepted, crate::proofs::Words::stopped, crate::proofs::Words::left_over))]
-fn module_of(heap: Global, words: &[Token], length: usize) -> Result<Draft, ReadFault>
-    ensures accepted { IfOk result (λ draft. IsDraft words.now (draft_lists draft)) }
+fn read_module(words: &[Token], length: usize, rows: &mut Rows) -> Result<Heading, ReadFault>
+    ensures accepted { IfOk result (λ heading. IsDraft words.now (record { heading = heading; rows = row_lists rows.new })) }
     ensures refused { IfErr result (IsStopped words.now length) }
+    ensures memory { (limit : ℕ) → length words.now ≤ limit → RowsReserved limit rows.old → RowsReserved limit rows.new }
+    ensures room { (limit : ℕ) → length words.now ≤ limit → RowsReserved limit rows.old → IfErr result (λ e. e ≢ OutOfMemory) }
 {
+    rows.clear();
     let mut cursor = Cursor::new(words);
-    let draft = match parse_module(heap, &mut cursor) {
-        Ok(draft) => draft,
+    let heading = match parse_module(&mut cursor, rows) {
+        Ok(heading) => heading,
         Err(stop) => return Err(fault_at(stop, cursor.rest(), length)),
     };
     match cursor.rest() {
-        [] => Ok(draft),
+        [] => Ok(heading),
         rest => Err(ReadFault::Unexpected(place_of(rest, length))),
     }
 }
 
-/// The draft of a module text; or why the text is refused, and where. The text is only looked at.
-pub fn parse(heap: Global, text: &[u8]) -> Result<Draft, ReadFault>
-    ensures accepted { IfOk result (λ draft. Accepted text.now (draft_lists draft)) }
+/// Reads a module text into the tables, in place of what they held, and answers the module's names; or answers why the text is
+/// refused, and where. Tables with memory for as many words and rows as the text has bytes need no more. The text is only looked at.
+pub fn parse(text: &[u8], tokens: &mut Vec<Token>, rows: &mut Rows) -> Result<Heading, ReadFault>
+    ensures accepted { IfOk result (λ heading. Accepted text.now (record { heading = heading; rows = row_lists rows.new })) }
     ensures refused { IfErr result (Refused text.now) }
+    ensures room { (limit : ℕ) → length text.now ≤ limit → Reserved limit tokens.old → RowsReserved limit rows.old → IfErr result (λ e. e ≢ OutOfMemory) }
 {
     if text.len() > LONGEST {
         return Err(ReadFault::LongText);
     }
-    let words = tokens(heap, text)?;
-    module_of(heap, &words, text.len())
+    read_tokens(text, tokens)?;
+    read_module(tokens, text.len(), rows)
 }
 
 /// The laws of reading. Want of memory aside, each text has a draft or a fault, only one of either, and not both.
