@@ -2,3 +2,4 @@ pub mod Steps
 pub mod Lists
 pub mod Parts
 pub mod Turns
+pub mod Room

@@ -1,6 +1,7 @@
-use Rattle.std.proofs.Common.{◌≤◌, length}
+use Rattle.std.proofs.Common.{ℕ, ◌+◌, ◌≤◌, length}
 use Rattle.grammar.specs.Promise.{deepest}
 use Rattle.grammar.specs.Drafts.{row_lists}
+use Rattle.grammar.specs.Room.{RowsRoom}
 use Rattle.statements.proofs.Turns.{Turns}
 use Rattle.statements.proofs.series.Given as goal
 
@@ -8,6 +9,7 @@ abbrev pub invariant-more : goal.invariant-more
 invariant-more l = record {
   goes : Turns deepest l.step l.initial.cursor (row_lists l.initial.rows) l.cursor (row_lists l.rows);
   shorter : length l.cursor ≤ length l.initial.cursor;
+  room : (limit slack : ℕ) → RowsRoom limit (length l.initial.cursor + slack) l.initial.rows → RowsRoom limit (length l.cursor + slack) l.rows;
 }
 
 abbrev pub decreases-more : goal.decreases-more
