@@ -43,12 +43,12 @@ fn fault_at(stop: Stop, rest: &[Token], length: usize) -> ReadFault
     }
 }
 
-// Reads the module whose words these are, all those of a text of that length, into the rows, in place of those that they had; or
+// Reads the module whose words these are, all those of a text of so many bytes, into the rows, in place of those that they had; or
 // finds where the words go wrong.
 #[tactic(auto, using(crate::proofs::Words::accepted, crate::proofs::Words::stopped, crate::proofs::Words::left_over))]
-fn read_module(words: &[Token], length: usize, rows: &mut Rows) -> Result<Heading, ReadFault>
+fn read_module(words: &[Token], bytes: usize, rows: &mut Rows) -> Result<Heading, ReadFault>
     ensures accepted { IfOk result (λ heading. IsDraft words.now (record { heading = heading; rows = row_lists rows.new })) }
-    ensures refused { IfErr result (IsStopped words.now length) }
+    ensures refused { IfErr result (IsStopped words.now bytes) }
     ensures memory { (limit : ℕ) → length words.now ≤ limit → RowsReserved limit rows.old → RowsReserved limit rows.new }
     ensures room { (limit : ℕ) → length words.now ≤ limit → RowsReserved limit rows.old → IfErr result (λ e. e ≢ OutOfMemory) }
 {
@@ -56,11 +56,11 @@ fn read_module(words: &[Token], length: usize, rows: &mut Rows) -> Result<Headin
     let mut cursor = Cursor::new(words);
     let heading = match parse_module(&mut cursor, rows) {
         Ok(heading) => heading,
-        Err(stop) => return Err(fault_at(stop, cursor.rest(), length)),
+        Err(stop) => return Err(fault_at(stop, cursor.rest(), bytes)),
     };
     match cursor.rest() {
         [] => Ok(heading),
-        rest => Err(ReadFault::Unexpected(place_of(rest, length))),
+        rest => Err(ReadFault::Unexpected(place_of(rest, bytes))),
     }
 }
 
