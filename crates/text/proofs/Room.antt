@@ -1,5 +1,5 @@
 -- What reading leaves of the tables' memory. Assumes nothing.
-use Rattle.std.proofs.Common.{◌≡◌, ◌≢◌, ℕ, ◌+◌, ◌-◌, ◌≤◌, Err, Ok, arith}
+use Rattle.std.proofs.Common.{◌≢◌, ℕ, ◌+◌, ◌-◌, ◌≤◌, Err, arith}
 use Rattle.grammar.specs.declared.draft.Rows.{Rows}
 use Rattle.grammar.specs.Room.{RowsRoom, RowsReserved}
 use Rattle.cursor.specs.declared.stop.Stop.{Stop}

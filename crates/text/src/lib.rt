@@ -69,6 +69,7 @@ fn read_module(words: &[Token], bytes: usize, rows: &mut Rows) -> Result<Heading
 pub fn parse(text: &[u8], tokens: &mut Vec<Token>, rows: &mut Rows) -> Result<Heading, ReadFault>
     ensures accepted { IfOk result (λ heading. Accepted text.now (record { heading = heading; rows = row_lists rows.new })) }
     ensures refused { IfErr result (Refused text.now) }
+    ensures memory { (limit : ℕ) → length text.now ≤ limit → Reserved limit tokens.old → RowsReserved limit rows.old → Reserved limit tokens.new × RowsReserved limit rows.new }
     ensures room { (limit : ℕ) → length text.now ≤ limit → Reserved limit tokens.old → RowsReserved limit rows.old → IfErr result (λ e. e ≢ OutOfMemory) }
 {
     if text.len() > LONGEST {

@@ -1,4 +1,4 @@
-use Rattle.std.proofs.Common.{◌+◌, length, arith}
+use Rattle.std.proofs.Common.{arith}
 use Rattle.grammar.specs.Promise.{deepest}
 use Rattle.grammar.specs.Trees.{both}
 use Rattle.parse.proofs.Turns.{word_then, pair_is}

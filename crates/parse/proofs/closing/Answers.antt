@@ -1,4 +1,4 @@
-use Rattle.std.proofs.Common.{◌+◌, length, arith}
+use Rattle.std.proofs.Common.{arith}
 use Rattle.grammar.specs.Trees.{both}
 use Rattle.parse.proofs.Turns.{turns}
 use Rattle.std.proofs.lemmas.Result.{err_from_is_err_and}

@@ -1,8 +1,7 @@
 use Rattle.grammar.specs.Promise.{deepest}
 use Rattle.grammar.specs.Trees.{both}
-use Rattle.grammar.specs.Drafts.{row_lists}
 use Rattle.parse.proofs.Turns.{word_then, pair_is}
-use Rattle.std.proofs.Common.{◌≡◌, ap, ◌+◌, length, arith}
+use Rattle.std.proofs.Common.{◌≡◌, ap, arith}
 use Rattle.grammar.specs.declared.draft.Name.{Name}
 use Rattle.grammar.specs.declared.draft.Heading.{Heading}
 use Rattle.grammar.specs.Drafts.{RowLists}

@@ -1,6 +1,5 @@
-use Rattle.std.proofs.Common.{◌≡◌, ◌≢◌, ◌+◌, ◌-◌, length, ap, sym, subst, arith}
+use Rattle.std.proofs.Common.{◌≢◌, ◌-◌, length, ap, sym, subst, arith}
 use Rattle.grammar.specs.declared.draft.Heading.{Heading}
-use Rattle.grammar.specs.Room.{RowsRoom, RowsReserved}
 use Rattle.text.specs.declared.faults.ReadFault.{ReadFault}
 use Rattle.text.specs.declared.faults.ReadFault.TheVariants.{OutOfMemory}
 use Rattle.text.proofs.Room.{enough, still_reserved, stop_reserved, stop_no_want}
