@@ -1,18 +1,19 @@
 //! Why a text is refused.
 ghost use Rattle.std.specs.Prelude.{◌≡◌};
+ghost use Rattle.fault.specs.declared.Layer.TheVariants.{Text};
 ghost use Rattle.text.specs.Faults.{read_told, from_tokens};
 
 use fault::{Fault, Layer, Refusal};
-use words::{TokensFault, WordFault, WordFaultRefusal};
+use words::{TokensFault, WordFault};
 
 /// Why a module text is not read.
-#[derive(Clone, Copy)]
+#[derive(Clone, Copy, PartialEq, Eq, Debug)]
 pub enum ReadFault {
     /// There is no memory for the words or the rows.
     OutOfMemory,
     /// The text has more than 16,384 bytes.
     LongText,
-    /// The text has a place where no word stands.
+    /// A word of the text is wrong.
     Word(WordFault),
     /// At this place stands a word with which no module goes on, or the text ends early.
     Unexpected(usize),

@@ -1,0 +1,13 @@
+use Rattle.std.proofs.Common.{ℕ, ◌+◌, ◌≤◌, length}
+use Rattle.grammar.specs.Rules.{decl}
+use Rattle.grammar.specs.Drafts.{row_lists, decl_rows, more_decls}
+use Rattle.grammar.specs.Room.{RowsRoom}
+use Rattle.grammar.specs.Promise.{deepest}
+use Rattle.cursor.proofs.Steps.{Goes}
+use Rattle.parse.proofs.declarations.Given as goal
+
+abbrev pub invariant-loop-cursor : goal.invariant-loop-cursor
+invariant-loop-cursor l = record { went : Goes deepest decl more_decls decl_rows l.initial.cursor (row_lists l.initial.rows) l.cursor (row_lists l.rows); on : length l.cursor ≤ length l.initial.cursor; room : (limit slack : ℕ) → RowsRoom limit (length l.initial.cursor + slack) l.initial.rows → RowsRoom limit (length l.cursor + slack) l.rows }
+
+abbrev pub decreases-loop-cursor : goal.decreases-loop-cursor
+decreases-loop-cursor l = length l.cursor

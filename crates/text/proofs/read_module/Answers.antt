@@ -1,0 +1,28 @@
+use Rattle.std.proofs.Common.{◌≢◌, ◌-◌, length, ap, sym, subst, arith}
+use Rattle.grammar.specs.declared.draft.Heading.{Heading}
+use Rattle.text.specs.declared.faults.ReadFault.{ReadFault}
+use Rattle.text.specs.declared.faults.ReadFault.TheVariants.{OutOfMemory}
+use Rattle.text.proofs.Room.{enough, still_reserved, stop_reserved, stop_no_want}
+use Rattle.text.proofs.read_module.Goals as goal
+
+pub returns-in-Err-clause-memory : goal.returns-in-Err-clause-memory
+returns-in-Err-clause-memory c = λ limit few reserved.
+    let words = length c.new-cursor.result in
+    let left = c.in-Err.ensures.room limit (limit - words) (enough limit words _ (omega (arith, few, ap length c.new-cursor.ensures)) (c.clear.ensures.memory limit reserved)) in
+    stop_reserved Heading _ _ _ left
+
+pub returns-in-Err-clause-room : goal.returns-in-Err-clause-room
+returns-in-Err-clause-room c = λ limit few reserved.
+    let words = length c.new-cursor.result in
+    let left = c.in-Err.ensures.room limit (limit - words) (enough limit words _ (omega (arith, few, ap length c.new-cursor.ensures)) (c.clear.ensures.memory limit reserved)) in
+    subst (λ (e : ReadFault). e ≢ OutOfMemory) (sym c.fault_at.ensures) (stop_no_want Heading _ _ _ _ left)
+
+pub returns-in-empty-clause-memory : goal.returns-in-empty-clause-memory
+returns-in-empty-clause-memory c = λ limit few reserved.
+    let words = length c.new-cursor.result in
+    still_reserved limit _ _ (c.in-Ok.ensures.room limit (limit - words) (enough limit words _ (omega (arith, few, ap length c.new-cursor.ensures)) (c.clear.ensures.memory limit reserved)))
+
+pub returns-in_default-clause-memory : goal.returns-in_default-clause-memory
+returns-in_default-clause-memory c = λ limit few reserved.
+    let words = length c.new-cursor.result in
+    still_reserved limit _ _ (c.in-Ok.ensures.room limit (limit - words) (enough limit words _ (omega (arith, few, ap length c.new-cursor.ensures)) (c.clear.ensures.memory limit reserved)))

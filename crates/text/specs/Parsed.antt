@@ -1,0 +1,69 @@
+-- What is promised of reading a text. Assumes nothing.
+use Rattle.std.specs.Prelude.{◌≡◌, ℕ, ◌<◌, ◌≤◌, List, [], ◌∷◌, length}
+use Rattle.words.specs.declared.token.Token.{Token}
+use Rattle.words.specs.Spelling.{Spelled, Misspelled}
+use Rattle.grammar.specs.Rules.{unit}
+use Rattle.grammar.specs.Trees.{Tree, words, depth}
+use Rattle.grammar.specs.Drafts.{DraftLists, draft_of}
+use Rattle.grammar.specs.Promise.{deepest, FirstWrong, FirstDeep}
+use Rattle.cursor.specs.declared.stop.Stop.{Stop}
+use Rattle.cursor.specs.declared.stop.Stop.TheVariants.{Unexpected as Wrong, TooDeep as Deep, OutOfMemory as NoMemory}
+use Rattle.text.specs.declared.faults.ReadFault.{ReadFault}
+use Rattle.text.specs.declared.faults.ReadFault.TheVariants.{OutOfMemory, LongText, Word, Unexpected, TooDeep}
+
+-- how many bytes a text has at most
+abbrev pub longest : ℕ
+longest = 16384
+
+-- the place of the first of these words or, where none is left, the text's length
+abbrev pub front_place : ℕ → List Token → ℕ
+front_place n [] = n
+front_place n (w ∷ ws) = w.place
+
+-- The words are those of a module that nests at most 16 deep, and the draft is that module's. No other module has these words.
+pub record IsDraft (tokens : List Token) (draft : DraftLists) : Type 0 where
+  pub tree : Tree unit
+  pub shallow : depth tree ≤ deepest
+  pub same : words tree ≡ tokens
+  pub drafted : draft ≡ draft_of tree
+  pub only : (other : Tree unit) → words other ≡ tokens → other ≡ tree
+
+-- the words go wrong at that place of a text of so many bytes
+pub record StopsAt (Stops : List Token → List Token → Type 0) (tokens : List Token) (bytes place : ℕ) : Type 0 where
+  pub rest : List Token
+  pub stops : Stops tokens rest
+  pub there : place ≡ front_place bytes rest
+
+-- Why the words of a text of so many bytes are no module's: the place of the first wrong word or, where the text ends early, of
+-- its end; or the place of the sign that opens the seventeenth nesting. For want of memory any text may be refused.
+abbrev pub IsStopped : List Token → ℕ → ReadFault → Type 0
+IsStopped tokens bytes OutOfMemory = Unit {0}
+IsStopped tokens bytes LongText = ⊥
+IsStopped tokens bytes (Word fault) = ⊥
+IsStopped tokens bytes (Unexpected place) = StopsAt FirstWrong tokens bytes place
+IsStopped tokens bytes (TooDeep place) = StopsAt FirstDeep tokens bytes place
+
+-- a text that is not too long has words, and they are so
+pub record HasWords (text : List ℕ) (Are : List Token → Type 0) : Type 0 where
+  pub short : length text ≤ longest
+  pub tokens : List Token
+  pub spelled : Spelled text tokens
+  pub are : Are tokens
+
+-- the text is a module's, and the draft is that module's
+abbrev pub Accepted : List ℕ → DraftLists → Type 0
+Accepted text draft = HasWords text (λ tokens. IsDraft tokens draft)
+
+-- Why a text is refused: it is too long; or a word is wrong, the first one of the text; or its words are no module's.
+abbrev pub Refused : List ℕ → ReadFault → Type 0
+Refused text OutOfMemory = Unit {0}
+Refused text LongText = longest < length text
+Refused text (Word fault) = (length text ≤ longest) × Misspelled text fault
+Refused text (Unexpected place) = HasWords text (λ tokens. StopsAt FirstWrong tokens (length text) place)
+Refused text (TooDeep place) = HasWords text (λ tokens. StopsAt FirstDeep tokens (length text) place)
+
+-- the fault where reading stopped
+abbrev pub stop_fault : Stop → ℕ → ReadFault
+stop_fault Wrong p = Unexpected p
+stop_fault Deep p = TooDeep p
+stop_fault NoMemory p = OutOfMemory

@@ -1,0 +1,85 @@
+//! A module text, read: its words and its grammar. The draft that comes out says what the text says, row by row, before any
+//! rule of a module is held against it.
+#![tactic(auto)]
+
+ghost use Rattle.std.specs.Prelude.{◌≡◌, ◌≢◌, ◌≤◌, ℕ, length, IfOk, IfErr};
+ghost use Rattle.grammar.specs.Drafts.{row_lists};
+ghost use Rattle.grammar.specs.Room.{Reserved, RowsReserved};
+ghost use Rattle.text.specs.declared.faults.ReadFault.TheVariants.{OutOfMemory};
+ghost use Rattle.text.specs.Parsed.{Accepted, Refused, IsDraft, IsStopped, front_place, stop_fault};
+ghost use Rattle.text.specs.Laws.{ReadLaws};
+
+use cursor::{Cursor, Stop};
+use grammar::{Heading, Rows};
+use parse::parse_module;
+use words::{Token, read_tokens};
+
+mod faults;
+
+pub use faults::ReadFault;
+
+/// How many bytes a text has at most.
+pub const LONGEST: usize = 16_384;
+
+// The place of the first of these words or, where none is left, the text's length.
+fn place_of(rest: &[Token], length: usize) -> usize
+    ensures { result ≡ front_place length rest.now }
+{
+    match rest {
+        [token, ..] => token.place,
+        [] => length,
+    }
+}
+
+// Why reading stopped, with these words left of a text of that length.
+fn fault_at(stop: Stop, rest: &[Token], length: usize) -> ReadFault
+    ensures { result ≡ stop_fault stop (front_place length rest.now) }
+{
+    let place = place_of(rest, length);
+    match stop {
+        Stop::OutOfMemory => ReadFault::OutOfMemory,
+        Stop::Unexpected => ReadFault::Unexpected(place),
+        Stop::TooDeep => ReadFault::TooDeep(place),
+    }
+}
+
+// Reads the module whose words these are, all those of a text of so many bytes, into the rows, in place of those that they had; or
+// finds where the words go wrong.
+#[tactic(auto, using(crate::proofs::Words::accepted, crate::proofs::Words::stopped, crate::proofs::Words::left_over))]
+fn read_module(words: &[Token], bytes: usize, rows: &mut Rows) -> Result<Heading, ReadFault>
+    ensures accepted { IfOk result (λ heading. IsDraft words.now (record { heading = heading; rows = row_lists rows.new })) }
+    ensures refused { IfErr result (IsStopped words.now bytes) }
+    ensures memory { (limit : ℕ) → length words.now ≤ limit → RowsReserved limit rows.old → RowsReserved limit rows.new }
+    ensures room { (limit : ℕ) → length words.now ≤ limit → RowsReserved limit rows.old → IfErr result (λ e. e ≢ OutOfMemory) }
+{
+    rows.clear();
+    let mut cursor = Cursor::new(words);
+    let heading = match parse_module(&mut cursor, rows) {
+        Ok(heading) => heading,
+        Err(stop) => return Err(fault_at(stop, cursor.rest(), bytes)),
+    };
+    match cursor.rest() {
+        [] => Ok(heading),
+        rest => Err(ReadFault::Unexpected(place_of(rest, bytes))),
+    }
+}
+
+/// Reads a module text into the tables, in place of what they held, and answers the module's names; or answers why the text is
+/// refused, and where. Tables with memory for as many words and rows as the text has bytes need no more. The text is only looked at.
+pub fn parse(text: &[u8], tokens: &mut Vec<Token>, rows: &mut Rows) -> Result<Heading, ReadFault>
+    ensures accepted { IfOk result (λ heading. Accepted text.now (record { heading = heading; rows = row_lists rows.new })) }
+    ensures refused { IfErr result (Refused text.now) }
+    ensures memory { (limit : ℕ) → length text.now ≤ limit → Reserved limit tokens.old → RowsReserved limit rows.old → Reserved limit tokens.new × RowsReserved limit rows.new }
+    ensures room { (limit : ℕ) → length text.now ≤ limit → Reserved limit tokens.old → RowsReserved limit rows.old → IfErr result (λ e. e ≢ OutOfMemory) }
+{
+    if text.len() > LONGEST {
+        return Err(ReadFault::LongText);
+    }
+    read_tokens(text, tokens)?;
+    read_module(tokens, text.len(), rows)
+}
+
+/// The laws of reading. Want of memory aside, each text has a draft or a fault, only one of either, and not both.
+pub fn read_laws()
+    ensures { ReadLaws }
+{}
