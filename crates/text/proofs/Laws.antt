@@ -1,5 +1,5 @@
--- That each text has one answer, want of memory aside. Assumes nothing.
-use Rattle.std.proofs.Common.{◌≡◌, ◌≢◌, ◌⊎◌, ℕ, ◌≤◌, List, [], ◌∷◌, ◌++◌, length, sym, refl, ap, ◌∙◌, subst, inl, inr, append_assoc, append-nil, arith}
+-- That each text has one answer. Assumes nothing.
+use Rattle.std.proofs.Common.{◌≡◌, ◌⊎◌, ℕ, ◌≤◌, List, [], ◌∷◌, ◌++◌, length, sym, refl, ap, ◌∙◌, subst, inl, inr, append_assoc, append-nil, arith}
 use Rattle.words.specs.declared.token.Token.{Token}
 use Rattle.words.specs.Spelling.{Spelled}
 use Rattle.words.proofs.Laws.{one_spelling, one_misspelling, not_both}
@@ -107,23 +107,23 @@ not_stopped text draft place a s =
     let e = one_spelling text a.tokens s.tokens a.spelled s.spelled in
     s.halts.stops (goes_on s.tokens s.halts.before s.rest a.are.tree a.are.shallow (a.are.same ∙ e) s.halts.whole)
 
--- a fault beside want of memory
+-- the text has a fault
 abbrev Faulty : List ℕ → Type 0
-Faulty text = (fault : ReadFault) × (fault ≢ OutOfMemory) × Refused text fault
+Faulty text = (fault : ReadFault) × Refused text fault
 
 -- the words of a text are a module's, or they stop
 answer : (text : List ℕ) (tokens : List Token) → length text ≤ longest → Spelled text tokens → (o : Out (Tree unit)) → read deepest unit tokens ≡ o → ((draft : DraftLists) × Accepted text draft) ⊎ Faulty text
 answer text tokens short spelled (got t []) e = inl (draft_of t, record { short = short; tokens = tokens; spelled = spelled; are = whole_module tokens t (draft_of t) e refl })
-answer text tokens short spelled (got t (w ∷ rest)) e = inr (Unexpected w.place, λ q. (cc), record { short = short; tokens = tokens; spelled = spelled; are = left_over tokens (w ∷ rest) (length text) t (omega arith) e })
-answer text tokens short spelled (wrong rest) e = inr (Unexpected (front_place (length text) rest), λ q. (cc), record { short = short; tokens = tokens; spelled = spelled; are = stopped tokens rest (length text) Wrong e })
-answer text tokens short spelled (deep rest) e = inr (TooDeep (front_place (length text) rest), λ q. (cc), record { short = short; tokens = tokens; spelled = spelled; are = stopped tokens rest (length text) Deep e })
+answer text tokens short spelled (got t (w ∷ rest)) e = inr (Unexpected w.place, record { short = short; tokens = tokens; spelled = spelled; are = left_over tokens (w ∷ rest) (length text) t (omega arith) e })
+answer text tokens short spelled (wrong rest) e = inr (Unexpected (front_place (length text) rest), record { short = short; tokens = tokens; spelled = spelled; are = stopped tokens rest (length text) Wrong e })
+answer text tokens short spelled (deep rest) e = inr (TooDeep (front_place (length text) rest), record { short = short; tokens = tokens; spelled = spelled; are = stopped tokens rest (length text) Deep e })
 
 pub some_answer : SomeAnswer
 some_answer text = elim (cases_lt longest (length text)) [
-  | inl long ↦ inr (LongText, λ q. (cc), long)
+  | inl long ↦ inr (LongText, long)
   | inr short ↦ elim (some_reading text) [
     | inl (tokens, spelled) ↦ answer text tokens short spelled (read deepest unit tokens) refl
-    | inr (fault, misspelled) ↦ inr (Word fault, λ q. (cc), (short, misspelled))
+    | inr (fault, misspelled) ↦ inr (Word fault, (short, misspelled))
   ]
 ]
 
@@ -134,27 +134,27 @@ one_draft text draft other a b =
     a.are.drafted ∙ ap draft_of same ∙ sym b.are.drafted
 
 pub one_fault : OneFault
-one_fault text OutOfMemory other a b n m = absurd (n refl)
-one_fault text fault OutOfMemory a b n m = absurd (m refl)
-one_fault text LongText LongText a b n m = refl
-one_fault text LongText (Word g) a b n m = absurd (omega (arith, b.0))
-one_fault text LongText (Unexpected q) a b n m = absurd (omega (arith, b.short))
-one_fault text LongText (TooDeep q) a b n m = absurd (omega (arith, b.short))
-one_fault text (Word f) LongText a b n m = absurd (omega (arith, a.0))
-one_fault text (Word f) (Word g) a b n m = ap Word (one_misspelling text f g a.1 b.1)
-one_fault text (Word f) (Unexpected q) a b n m = absurd (not_both text b.tokens f b.spelled a.1)
-one_fault text (Word f) (TooDeep q) a b n m = absurd (not_both text b.tokens f b.spelled a.1)
-one_fault text (Unexpected p) LongText a b n m = absurd (omega (arith, a.short))
-one_fault text (Unexpected p) (Word g) a b n m = absurd (not_both text a.tokens g a.spelled b.1)
-one_fault text (Unexpected p) (Unexpected q) a b n m = ap Unexpected (one_place text p q (wrong_stopped text p a) (wrong_stopped text q b))
-one_fault text (Unexpected p) (TooDeep q) a b n m = absurd (not_both_stopped text p q a b)
-one_fault text (TooDeep p) LongText a b n m = absurd (omega (arith, a.short))
-one_fault text (TooDeep p) (Word g) a b n m = absurd (not_both text a.tokens g a.spelled b.1)
-one_fault text (TooDeep p) (Unexpected q) a b n m = absurd (not_both_stopped text q p b a)
-one_fault text (TooDeep p) (TooDeep q) a b n m = ap TooDeep (one_place text p q (deep_stopped text p a) (deep_stopped text q b))
+one_fault text OutOfMemory other a b = absurd a
+one_fault text fault OutOfMemory a b = absurd b
+one_fault text LongText LongText a b = refl
+one_fault text LongText (Word g) a b = absurd (omega (arith, b.0))
+one_fault text LongText (Unexpected q) a b = absurd (omega (arith, b.short))
+one_fault text LongText (TooDeep q) a b = absurd (omega (arith, b.short))
+one_fault text (Word f) LongText a b = absurd (omega (arith, a.0))
+one_fault text (Word f) (Word g) a b = ap Word (one_misspelling text f g a.1 b.1)
+one_fault text (Word f) (Unexpected q) a b = absurd (not_both text b.tokens f b.spelled a.1)
+one_fault text (Word f) (TooDeep q) a b = absurd (not_both text b.tokens f b.spelled a.1)
+one_fault text (Unexpected p) LongText a b = absurd (omega (arith, a.short))
+one_fault text (Unexpected p) (Word g) a b = absurd (not_both text a.tokens g a.spelled b.1)
+one_fault text (Unexpected p) (Unexpected q) a b = ap Unexpected (one_place text p q (wrong_stopped text p a) (wrong_stopped text q b))
+one_fault text (Unexpected p) (TooDeep q) a b = absurd (not_both_stopped text p q a b)
+one_fault text (TooDeep p) LongText a b = absurd (omega (arith, a.short))
+one_fault text (TooDeep p) (Word g) a b = absurd (not_both text a.tokens g a.spelled b.1)
+one_fault text (TooDeep p) (Unexpected q) a b = absurd (not_both_stopped text q p b a)
+one_fault text (TooDeep p) (TooDeep q) a b = ap TooDeep (one_place text p q (deep_stopped text p a) (deep_stopped text q b))
 
 pub not_accepted_and_refused : NotBoth
-not_accepted_and_refused text draft OutOfMemory a r = refl
+not_accepted_and_refused text draft OutOfMemory a r = absurd r
 not_accepted_and_refused text draft LongText a r = absurd (omega (arith, a.short))
 not_accepted_and_refused text draft (Word f) a r = absurd (not_both text a.tokens f a.spelled r.1)
 not_accepted_and_refused text draft (Unexpected p) a r = absurd (not_stopped text draft p a (wrong_stopped text p r))

@@ -1,4 +1,6 @@
 -- What the user is told of each fault of reading. Assumes nothing.
+use Rattle.std.specs.Prelude.{ℕ, List, codes}
+use Rattle.fault.specs.Print.{refusal_line}
 use Rattle.fault.specs.declared.Layer.TheVariants.{Text}
 use Rattle.fault.specs.declared.Refusal.{Refusal}
 use Rattle.words.specs.Faults.{word_told}
@@ -14,6 +16,14 @@ read_told LongText = record { number = 2; place = 0; layer = Text }
 read_told (Word f) = word_told f
 read_told (Unexpected p) = record { number = 6; place = p; layer = Text }
 read_told (TooDeep p) = record { number = 7; place = p; layer = Text }
+
+-- what is printed of each case
+abbrev pub fault_line : ReadFault → List ℕ
+fault_line OutOfMemory = codes "no memory for a reader of module texts"
+fault_line LongText = refusal_line (read_told LongText)
+fault_line (Word f) = refusal_line (read_told (Word f))
+fault_line (Unexpected p) = refusal_line (read_told (Unexpected p))
+fault_line (TooDeep p) = refusal_line (read_told (TooDeep p))
 
 -- a fault of the words, as one of reading
 abbrev pub from_tokens : TokensFault → ReadFault

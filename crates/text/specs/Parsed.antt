@@ -35,7 +35,7 @@ pub record StopsAt (Stops : List Token → List Token → Type 0) (tokens : List
   pub there : place ≡ front_place bytes rest
 
 -- Why the words of a text of so many bytes are no module's: the place of the first wrong word or, where the text ends early, of
--- its end; or the place of the sign that opens the seventeenth nesting. For want of memory any text may be refused.
+-- its end; or the place of the sign that opens the seventeenth nesting. For want of memory the rest of a text may stay unread.
 abbrev pub IsStopped : List Token → ℕ → ReadFault → Type 0
 IsStopped tokens bytes OutOfMemory = Unit {0}
 IsStopped tokens bytes LongText = ⊥
@@ -54,9 +54,10 @@ pub record HasWords (text : List ℕ) (Are : List Token → Type 0) : Type 0 whe
 abbrev pub Accepted : List ℕ → DraftLists → Type 0
 Accepted text draft = HasWords text (λ tokens. IsDraft tokens draft)
 
--- Why a text is refused: it is too long; or a word is wrong, the first one of the text; or its words are no module's.
+-- Why a text is refused: it is too long; or a word is wrong, the first one of the text; or its words are no module's. Never for want
+-- of memory.
 abbrev pub Refused : List ℕ → ReadFault → Type 0
-Refused text OutOfMemory = Unit {0}
+Refused text OutOfMemory = ⊥
 Refused text LongText = longest < length text
 Refused text (Word fault) = (length text ≤ longest) × Misspelled text fault
 Refused text (Unexpected place) = HasWords text (λ tokens. StopsAt FirstWrong tokens (length text) place)

@@ -1,15 +1,18 @@
 //! Why a text is refused.
-ghost use Rattle.std.specs.Prelude.{◌≡◌};
+ghost use Rattle.std.specs.Prelude.{◌≡◌, Some};
 ghost use Rattle.fault.specs.declared.Layer.TheVariants.{Text};
-ghost use Rattle.text.specs.Faults.{read_told, from_tokens};
+ghost use Rattle.text.specs.declared.faults.ReadFault.TheVariants.{OutOfMemory};
+ghost use Rattle.text.specs.Faults.{read_told, fault_line, from_tokens};
 
 use fault::{Fault, Layer, Refusal};
+use std::alloc::AllocError;
+use std::{error, fmt};
 use words::{TokensFault, WordFault};
 
 /// Why a module text is not read.
 #[derive(Clone, Copy, PartialEq, Eq, Debug)]
 pub enum ReadFault {
-    /// There is no memory for the words or the rows.
+    /// There is no memory for a reader.
     OutOfMemory,
     /// The text has more than 16,384 bytes.
     LongText,
@@ -46,6 +49,20 @@ impl Fault for ReadFault {
     }
 }
 
+/// The line that tells the refusal; where memory is wanting, which breaks no rule, a sentence.
+impl fmt::Display for ReadFault {
+    ghost output = { λ fault. Some (fault_line fault) };
+
+    fn fmt<W: fmt::Write>(&self, f: &mut fmt::Formatter<W>) -> fmt::Result {
+        match self {
+            ReadFault::OutOfMemory => f.write_str("no memory for a reader of module texts"),
+            fault => fmt::Display::fmt(&fault.refusal(), f),
+        }
+    }
+}
+
+impl error::Error for ReadFault {}
+
 impl From<TokensFault> for ReadFault {
     ghost from_gives = { λ e r. r ≡ from_tokens e };
 
@@ -54,5 +71,13 @@ impl From<TokensFault> for ReadFault {
             TokensFault::OutOfMemory => ReadFault::OutOfMemory,
             TokensFault::Word(fault) => ReadFault::Word(fault),
         }
+    }
+}
+
+impl From<AllocError> for ReadFault {
+    ghost from_gives = { λ _ r. r ≡ OutOfMemory };
+
+    fn from(_e: AllocError) -> ReadFault {
+        ReadFault::OutOfMemory
     }
 }

@@ -6,7 +6,7 @@ ghost use Rattle.std.specs.Prelude.{◌≡◌, ◌≢◌, ◌≤◌, ℕ, length
 ghost use Rattle.grammar.specs.Drafts.{row_lists};
 ghost use Rattle.grammar.specs.Room.{Reserved, RowsReserved};
 ghost use Rattle.text.specs.declared.faults.ReadFault.TheVariants.{OutOfMemory};
-ghost use Rattle.text.specs.Parsed.{Accepted, Refused, IsDraft, IsStopped, front_place, stop_fault};
+ghost use Rattle.text.specs.Parsed.{longest, Accepted, Refused, IsDraft, IsStopped, front_place, stop_fault};
 ghost use Rattle.text.specs.Laws.{ReadLaws};
 
 use cursor::{Cursor, Stop};
@@ -15,8 +15,10 @@ use parse::parse_module;
 use words::{Token, read_tokens};
 
 mod faults;
+mod reader;
 
 pub use faults::ReadFault;
+pub use reader::Reader;
 
 /// How many bytes a text has at most.
 pub const LONGEST: usize = 16_384;
@@ -64,13 +66,17 @@ fn read_module(words: &[Token], bytes: usize, rows: &mut Rows) -> Result<Heading
     }
 }
 
-/// Reads a module text into the tables, in place of what they held, and answers the module's names; or answers why the text is
-/// refused, and where. Tables with memory for as many words and rows as the text has bytes need no more. The text is only looked at.
-pub fn parse(text: &[u8], tokens: &mut Vec<Token>, rows: &mut Rows) -> Result<Heading, ReadFault>
+// Reads a module text into the tables, in place of what they held, and answers the module's names; or answers why the text is
+// refused, and where. Tables with memory for the longest text need no more.
+fn read_text(
+    text: &[u8],
+    tokens: &mut Vec<Token>,
+    rows: &mut Rows,
+) -> Result<Heading, ReadFault>
     ensures accepted { IfOk result (λ heading. Accepted text.now (record { heading = heading; rows = row_lists rows.new })) }
-    ensures refused { IfErr result (Refused text.now) }
-    ensures memory { (limit : ℕ) → length text.now ≤ limit → Reserved limit tokens.old → RowsReserved limit rows.old → Reserved limit tokens.new × RowsReserved limit rows.new }
-    ensures room { (limit : ℕ) → length text.now ≤ limit → Reserved limit tokens.old → RowsReserved limit rows.old → IfErr result (λ e. e ≢ OutOfMemory) }
+    ensures refused { IfErr result (λ fault. fault ≢ OutOfMemory → Refused text.now fault) }
+    ensures memory { Reserved longest tokens.old → RowsReserved longest rows.old → Reserved longest tokens.new × RowsReserved longest rows.new }
+    ensures room { Reserved longest tokens.old → RowsReserved longest rows.old → IfErr result (λ e. e ≢ OutOfMemory) }
 {
     if text.len() > LONGEST {
         return Err(ReadFault::LongText);
@@ -79,7 +85,7 @@ pub fn parse(text: &[u8], tokens: &mut Vec<Token>, rows: &mut Rows) -> Result<He
     read_module(tokens, text.len(), rows)
 }
 
-/// The laws of reading. Want of memory aside, each text has a draft or a fault, only one of either, and not both.
+/// The laws of reading. Each text has a draft or a fault, only one of either, and not both.
 pub fn read_laws()
     ensures { ReadLaws }
 {}

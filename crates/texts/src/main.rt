@@ -3,7 +3,7 @@
 
 use fault::Fault;
 use std::alloc::{AllocError, Global};
-use text::parse;
+use text::Reader;
 
 /// A small module with every rule of the grammar and every sign. It is played with one space behind each word.
 const SMALL: &str = r"
@@ -39,6 +39,44 @@ const BEFORE_ACTION: &str = "MODULE:M. INPUTS:a. OUTPUTS:o. MEMORY:r;s[2]. BODY 
 const BEHIND_ACTION: &str = ". ENDSEQUENCE CONTROLRESET(1)";
 
 const CLOSING: &str = ". END.";
+
+/// Texts with their words right or wrong.
+const TEXTS: [(&str, &[u8]); 9] = [
+    ("an empty text", b""),
+    ("separators alone", b" \t\r\n"),
+    ("a byte of 128", b"MODULE \x80"),
+    ("a byte of 255", b"\xff"),
+    ("a faulty word behind wrong grammar", b"END END 123456"),
+    (
+        "words that touch",
+        b"MODULE:M.INPUTS:a;b[2].MEMORY:r[2].BODY SEQUENCE:c.1r*(a)<=b;=>(^a)/(1).2DEADEND.ENDSEQUENCE CONTROLRESET(1).END.",
+    ),
+    (
+        "capital words in small letters",
+        b"module:m. inputs:a. outputs:o. memory:r. buses:b. body sequence:c. 1 null. 2 deadend. endsequence controlreset(1); o=b; b=a. end.",
+    ),
+    (
+        "capital words in both cases",
+        b"Module:m. InPuts:a. Body Sequence:c. 1 Null. 2 DeadEnd. EndSequence ControlReset(1). End.",
+    ),
+    ("a capital word for a name", b"MODULE: end."),
+];
+
+/// Values with their words right or wrong.
+const VALUES: [(&str, &str); 12] = [
+    ("a name of 20 bytes", "abcdefghijklmnopqrst"),
+    ("a name of 21 bytes", "abcdefghijklmnopqrstu"),
+    ("65535", "16$65535"),
+    ("65536", "16$65536"),
+    ("00001", "16$00001"),
+    ("000001", "16$000001"),
+    ("99999", "16$99999"),
+    ("a lone <", "s < s"),
+    ("a lone >", "s > s"),
+    ("an underscore first", "s & _s"),
+    ("an underscore behind digits", "12_"),
+    ("a question mark", "s?s"),
+];
 
 /// Wrong and right actions of a step.
 const ACTIONS: [(&str, &str); 16] = [
@@ -99,142 +137,134 @@ fn times(heap: Global, part: &str, count: usize) -> Result<String, AllocError> {
     Ok(text)
 }
 
-// Prints what comes of a text.
-fn play(rt: &HostRuntime, label: &str, text: &[u8]) -> anyhow::Result<()> {
-    match parse(rt.alloc(), text) {
-        Ok(_) => println!(rt; "{label}: read")?,
-        Err(fault) => {
-            let refusal = fault.refusal();
-            println!(rt; "{label}: {refusal}")?
+/// Plays texts to one reader, and prints what comes of them.
+#[derive(Drop)]
+struct Player<'a> {
+    rt: &'a HostRuntime,
+    reader: Reader,
+}
+
+impl<'a> Player<'a> {
+    // Prints what comes of a text.
+    fn play(&mut self, label: &str, text: &[u8]) -> anyhow::Result<()> {
+        match self.reader.read(text) {
+            Ok(_) => println!(self.rt; "{label}: read")?,
+            Err(fault) => {
+                let refusal = fault.refusal();
+                println!(self.rt; "{label}: {refusal}")?
+            }
         }
+        Ok(())
     }
-    Ok(())
-}
 
-// The same at a place of the small module.
-fn play_at(rt: &HostRuntime, label: &str, at: usize, text: &str) -> anyhow::Result<()> {
-    let numbered = format!(in rt.alloc(); "{label} {at}")?;
-    play(rt, numbered.as_str(), text.as_bytes())
-}
-
-// A module whose first step loads r with that value.
-fn play_value(rt: &HostRuntime, label: &str, value: &str) -> anyhow::Result<()> {
-    let text = format!(in rt.alloc(); "{BEFORE_VALUE}{value}{BEHIND_VALUE}")?;
-    play(rt, label, text.as_bytes())
-}
-
-// A module with that action, and with that end.
-fn play_step(rt: &HostRuntime, label: &str, action: &str, end: &str) -> anyhow::Result<()> {
-    let text = format!(in rt.alloc(); "{BEFORE_ACTION}{action}{BEHIND_ACTION}{end}")?;
-    play(rt, label, text.as_bytes())
-}
-
-fn play_steps(rt: &HostRuntime) -> anyhow::Result<()> {
-    for (label, action) in ACTIONS {
-        play_step(rt, label, action, CLOSING)?;
+    // The same at a place of the small module.
+    fn play_at(&mut self, label: &str, at: usize, text: &str) -> anyhow::Result<()> {
+        let numbered = format!(in self.rt.alloc(); "{label} {at}")?;
+        self.play(numbered.as_str(), text.as_bytes())
     }
-    for (label, end) in ENDS {
-        play_step(rt, label, "NULL", end)?;
+
+    // A module whose first step loads r with that value.
+    fn play_value(&mut self, label: &str, value: &str) -> anyhow::Result<()> {
+        let text = format!(in self.rt.alloc(); "{BEFORE_VALUE}{value}{BEHIND_VALUE}")?;
+        self.play(label, text.as_bytes())
     }
-    Ok(())
-}
 
-// Values under so many openings, each closed again.
-fn play_nested(rt: &HostRuntime, open: &str, close: &str, count: usize) -> anyhow::Result<()> {
-    let opened = times(rt.alloc(), open, count)?;
-    let closed = times(rt.alloc(), close, count)?;
-    let value = format!(in rt.alloc(); "{opened}s{closed}")?;
-    let label = format!(in rt.alloc(); "{count} times {open}")?;
-    play_value(rt, label.as_str(), value.as_str())
-}
-
-fn play_nestings(rt: &HostRuntime) -> anyhow::Result<()> {
-    for (open, close) in [("(", ")"), ("^", ""), ("&/", ""), ("+/", ""), ("@/", "")] {
-        play_nested(rt, open, close, 16)?;
-        play_nested(rt, open, close, 17)?;
+    // A module with that action, and with that end.
+    fn play_step(&mut self, label: &str, action: &str, end: &str) -> anyhow::Result<()> {
+        let text = format!(in self.rt.alloc(); "{BEFORE_ACTION}{action}{BEHIND_ACTION}{end}")?;
+        self.play(label, text.as_bytes())
     }
-    play_nested(rt, "^(", ")", 8)?;
-    play_nested(rt, "^(", ")", 9)?;
-    play_value(
-        rt,
-        "a wrong word before the 17th nesting",
-        "s s((((((((((((((((((s",
-    )?;
-    play_value(rt, "a wrong word behind it", "(((((((((((((((((s s")
-}
 
-// The small module with a wrong word at every place, and cut short before every word.
-fn play_module(rt: &HostRuntime) -> anyhow::Result<()> {
-    let words = SMALL.split_whitespace().count();
-    for at in 0..words {
-        let word = if at == 0 { FIRST_STRANGER } else { STRANGER };
-        let text = with_word(rt.alloc(), at, word)?;
-        play_at(rt, "wrong word", at, text.as_str())?;
+    // A module padded by spaces to so many bytes.
+    fn play_padded(&mut self, bytes: usize) -> anyhow::Result<()> {
+        let mut text = format!(in self.rt.alloc(); "{BEFORE_VALUE}s{BEHIND_VALUE}")?;
+        let gap = times(self.rt.alloc(), " ", bytes.saturating_sub(text.len()))?;
+        text.push_str(gap.as_str())?;
+        let label = format!(in self.rt.alloc(); "{bytes} bytes")?;
+        self.play(label.as_str(), text.as_bytes())
     }
-    for count in 0..words {
-        let text = cut(rt.alloc(), count)?;
-        play_at(rt, "early end", count, text.as_str())?;
+
+    // Values under so many openings, each closed again.
+    fn play_nested(&mut self, open: &str, close: &str, count: usize) -> anyhow::Result<()> {
+        let opened = times(self.rt.alloc(), open, count)?;
+        let closed = times(self.rt.alloc(), close, count)?;
+        let value = format!(in self.rt.alloc(); "{opened}s{closed}")?;
+        let label = format!(in self.rt.alloc(); "{count} times {open}")?;
+        self.play_value(label.as_str(), value.as_str())
     }
-    let whole = cut(rt.alloc(), words)?;
-    play(rt, "the small module", whole.as_bytes())?;
-    let more = format!(in rt.alloc(); "{whole}x")?;
-    play(rt, "a word behind it", more.as_bytes())
-}
 
-// A text padded by spaces to so many bytes.
-fn play_padded(rt: &HostRuntime, bytes: usize) -> anyhow::Result<()> {
-    let mut text = format!(in rt.alloc(); "{BEFORE_VALUE}s{BEHIND_VALUE}")?;
-    let gap = times(rt.alloc(), " ", bytes.saturating_sub(text.len()))?;
-    text.push_str(gap.as_str())?;
-    let label = format!(in rt.alloc(); "{bytes} bytes")?;
-    play(rt, label.as_str(), text.as_bytes())
-}
+    fn play_words(&mut self) -> anyhow::Result<()> {
+        for (label, text) in TEXTS {
+            self.play(label, text)?;
+        }
+        for (label, value) in VALUES {
+            self.play_value(label, value)?;
+        }
+        self.play_padded(16_384)?;
+        self.play_padded(16_385)
+    }
 
-fn play_words(rt: &HostRuntime) -> anyhow::Result<()> {
-    play(rt, "an empty text", b"")?;
-    play(rt, "separators alone", b" \t\r\n")?;
-    play_value(rt, "a name of 20 bytes", "abcdefghijklmnopqrst")?;
-    play_value(rt, "a name of 21 bytes", "abcdefghijklmnopqrstu")?;
-    play_value(rt, "65535", "16$65535")?;
-    play_value(rt, "65536", "16$65536")?;
-    play_value(rt, "00001", "16$00001")?;
-    play_value(rt, "000001", "16$000001")?;
-    play_value(rt, "99999", "16$99999")?;
-    play_value(rt, "a lone <", "s < s")?;
-    play_value(rt, "a lone >", "s > s")?;
-    play_value(rt, "an underscore first", "s & _s")?;
-    play_value(rt, "an underscore behind digits", "12_")?;
-    play_value(rt, "a question mark", "s?s")?;
-    play(rt, "a byte of 128", b"MODULE \x80")?;
-    play(rt, "a byte of 255", b"\xff")?;
-    play(rt, "a faulty word behind wrong grammar", b"END END 123456")?;
-    play(
-        rt,
-        "words that touch",
-        b"MODULE:M.INPUTS:a;b[2].MEMORY:r[2].BODY SEQUENCE:c.1r*(a)<=b;=>(^a)/(1).2DEADEND.ENDSEQUENCE CONTROLRESET(1).END.",
-    )?;
-    play(
-        rt,
-        "capital words in small letters",
-        b"module:m. inputs:a. outputs:o. memory:r. buses:b. body sequence:c. 1 null. 2 deadend. endsequence controlreset(1); o=b; b=a. end.",
-    )?;
-    play(
-        rt,
-        "capital words in both cases",
-        b"Module:m. InPuts:a. Body Sequence:c. 1 Null. 2 DeadEnd. EndSequence ControlReset(1). End.",
-    )?;
-    play(rt, "a capital word for a name", b"MODULE: end.")?;
-    play_padded(rt, 16384)?;
-    play_padded(rt, 16385)
-}
+    fn play_steps(&mut self) -> anyhow::Result<()> {
+        for (label, action) in ACTIONS {
+            self.play_step(label, action, CLOSING)?;
+        }
+        for (label, end) in ENDS {
+            self.play_step(label, "NULL", end)?;
+        }
+        Ok(())
+    }
 
-fn run(rt: &HostRuntime) -> anyhow::Result<()> {
-    play_words(rt)?;
-    play_steps(rt)?;
-    play_nestings(rt)?;
-    play_module(rt)
+    fn play_nestings(&mut self) -> anyhow::Result<()> {
+        for (open, close) in [("(", ")"), ("^", ""), ("&/", ""), ("+/", ""), ("@/", "")] {
+            self.play_nested(open, close, 16)?;
+            self.play_nested(open, close, 17)?;
+        }
+        self.play_nested("^(", ")", 8)?;
+        self.play_nested("^(", ")", 9)?;
+        self.play_value(
+            "a wrong word before the 17th nesting",
+            "s s((((((((((((((((((s",
+        )?;
+        self.play_value("a wrong word behind it", "(((((((((((((((((s s")
+    }
+
+    // The small module with a wrong word at every place.
+    fn play_strangers(&mut self, words: usize) -> anyhow::Result<()> {
+        for at in 0..words {
+            let word = if at == 0 { FIRST_STRANGER } else { STRANGER };
+            let text = with_word(self.rt.alloc(), at, word)?;
+            self.play_at("wrong word", at, text.as_str())?;
+        }
+        Ok(())
+    }
+
+    // The small module cut short before every word.
+    fn play_cuts(&mut self, words: usize) -> anyhow::Result<()> {
+        for count in 0..words {
+            let text = cut(self.rt.alloc(), count)?;
+            self.play_at("early end", count, text.as_str())?;
+        }
+        Ok(())
+    }
+
+    fn play_module(&mut self) -> anyhow::Result<()> {
+        let words = SMALL.split_whitespace().count();
+        self.play_strangers(words)?;
+        self.play_cuts(words)?;
+        let whole = cut(self.rt.alloc(), words)?;
+        self.play("the small module", whole.as_bytes())?;
+        let more = format!(in self.rt.alloc(); "{whole}x")?;
+        self.play("a word behind it", more.as_bytes())
+    }
 }
 
 fn main(rt: HostRuntime) -> anyhow::Result<()> {
-    run(&rt)
+    let mut player = Player {
+        rt: &rt,
+        reader: Reader::new(rt.alloc())?,
+    };
+    player.play_words()?;
+    player.play_steps()?;
+    player.play_nestings()?;
+    player.play_module()
 }

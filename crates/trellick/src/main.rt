@@ -3,11 +3,11 @@
 
 use anyhow::Context;
 use fault::Fault;
-use grammar::{Class, Draft, Item, Leaving, Listed, Name, Step};
+use grammar::{Class, Draft, Item, Leaving, Name, Step};
 use std::alloc::AllocError;
 use std::fs;
 use std::process::ExitCode;
-use text::parse;
+use text::Reader;
 
 /// The file that is read.
 const MODULE: &str = "module.ahpl";
@@ -17,7 +17,7 @@ const MODULE: &str = "module.ahpl";
 struct Listing<'a> {
     rt: &'a HostRuntime,
     text: &'a [u8],
-    draft: &'a Draft,
+    draft: Draft<'a>,
 }
 
 impl<'a> Listing<'a> {
@@ -43,7 +43,7 @@ impl<'a> Listing<'a> {
     // The symbols of a class, in the order in which they are declared.
     fn show_class(&self, heading: &str, class: Class) -> anyhow::Result<()> {
         print!(self.rt; "{heading}")?;
-        for item in self.draft.rows.items.iter() {
+        for item in self.draft.items {
             if item.class == class {
                 self.show_item(item)?;
             }
@@ -59,9 +59,9 @@ impl<'a> Listing<'a> {
         Ok(())
     }
 
-    fn show_resets(&self, resets: &[Listed]) -> anyhow::Result<()> {
+    fn show_resets(&self) -> anyhow::Result<()> {
         print!(self.rt; "CONTROLRESET")?;
-        for reset in resets {
+        for reset in self.draft.resets {
             let step = reset.integer.value;
             print!(self.rt; " {step}")?;
         }
@@ -70,12 +70,11 @@ impl<'a> Listing<'a> {
     }
 
     fn show_counts(&self) -> anyhow::Result<()> {
-        let rows = &self.draft.rows;
-        let statements = rows.statements.len();
-        let targets = rows.targets.len();
-        let exits = rows.exits.len();
-        let nodes = rows.terms.nodes.len();
-        let digits = rows.terms.digits.len();
+        let statements = self.draft.statements.len();
+        let targets = self.draft.targets.len();
+        let exits = self.draft.exits.len();
+        let nodes = self.draft.nodes.len();
+        let digits = self.draft.digits.len();
         println!(self.rt;
             "ROWS {statements} statements, {targets} targets, {exits} exits, {nodes} nodes, {digits} digits"
         )?;
@@ -83,17 +82,17 @@ impl<'a> Listing<'a> {
     }
 
     fn show(&self) -> anyhow::Result<()> {
-        let title = self.upper(self.draft.title)?;
-        let clock = self.upper(self.draft.clock)?;
+        let title = self.upper(self.draft.heading.title)?;
+        let clock = self.upper(self.draft.heading.clock)?;
         println!(self.rt; "MODULE {title} CLOCK {clock}")?;
         self.show_class("INPUTS", Class::Input)?;
         self.show_class("OUTPUTS", Class::Output)?;
         self.show_class("MEMORY", Class::Memory)?;
         self.show_class("BUSES", Class::Bus)?;
-        for step in self.draft.rows.steps.iter() {
+        for step in self.draft.steps {
             self.show_step(step)?;
         }
-        self.show_resets(self.draft.rows.resets.as_slice())?;
+        self.show_resets()?;
         self.show_counts()
     }
 }
@@ -109,14 +108,12 @@ fn leaving_name(leaving: Leaving) -> &'static str {
 
 fn main(rt: HostRuntime) -> anyhow::Result<ExitCode> {
     let text = fs::read(&rt, MODULE).context(MODULE)?;
-    match parse(rt.alloc(), text.as_slice()) {
+    let text = text.as_slice();
+    let mut reader = Reader::new(rt.alloc())?;
+    match reader.read(text) {
         Ok(draft) => {
-            let listing = Listing {
-                rt: &rt,
-                text: text.as_slice(),
-                draft: &draft,
-            };
-            listing.show()?;
+            let rt = &rt;
+            Listing { rt, text, draft }.show()?;
             Ok(ExitCode::SUCCESS)
         }
         Err(fault) => {

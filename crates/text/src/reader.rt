@@ -1,0 +1,42 @@
+//! A reader of module texts.
+ghost use Rattle.std.specs.Prelude.{◌≡◌, IfOk, IfErr};
+ghost use Rattle.grammar.specs.Drafts.{draft_lists};
+ghost use Rattle.grammar.specs.Room.{Reserved, RowsReserved};
+ghost use Rattle.text.specs.declared.faults.ReadFault.TheVariants.{OutOfMemory};
+ghost use Rattle.text.specs.Parsed.{longest, Accepted, Refused};
+
+use crate::faults::ReadFault;
+use crate::{LONGEST, read_text};
+use grammar::{Draft, Rows};
+use std::alloc::Global;
+use words::Token;
+
+/// A reader of module texts. It has its memory, for the longest text that there may be, from the time when it is made, so that
+/// reading never wants any.
+#[derive(Drop)]
+pub struct Reader {
+    tokens: Vec<Token>,
+    rows: Rows,
+    ghost words: { Reserved longest tokens },
+    ghost tables: { RowsReserved longest rows },
+}
+
+impl Reader {
+    /// A reader, unless there is no memory for it.
+    pub fn new(heap: Global) -> Result<Reader, ReadFault>
+        ensures { IfErr result (λ fault. fault ≡ OutOfMemory) }
+    {
+        let tokens = Vec::with_capacity(heap, LONGEST)?;
+        let rows = Rows::with_capacity(heap, LONGEST)?;
+        Ok(Reader { tokens, rows })
+    }
+
+    /// What a module text says; or why the text is refused, and where. The text is only looked at.
+    pub fn read(&mut self, text: &[u8]) -> Result<Draft<'_>, ReadFault>
+        ensures accepted { IfOk result (λ draft. Accepted text.now (draft_lists draft)) }
+        ensures refused { IfErr result (Refused text.now) }
+    {
+        let heading = read_text(text, &mut self.tokens, &mut self.rows)?;
+        Ok(self.rows.draft(heading))
+    }
+}
