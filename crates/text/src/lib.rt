@@ -68,11 +68,7 @@ fn read_module(words: &[Token], bytes: usize, rows: &mut Rows) -> Result<Heading
 
 // Reads a module text into the tables, in place of what they held, and answers the module's names; or answers why the text is
 // refused, and where. Tables with memory for the longest text need no more.
-fn read_text(
-    text: &[u8],
-    tokens: &mut Vec<Token>,
-    rows: &mut Rows,
-) -> Result<Heading, ReadFault>
+fn read_text(text: &[u8], tokens: &mut Vec<Token>, rows: &mut Rows) -> Result<Heading, ReadFault>
     ensures accepted { IfOk result (λ heading. Accepted text.now (record { heading = heading; rows = row_lists rows.new })) }
     ensures refused { IfErr result (λ fault. fault ≢ OutOfMemory → Refused text.now fault) }
     ensures memory { Reserved longest tokens.old → RowsReserved longest rows.old → Reserved longest tokens.new × RowsReserved longest rows.new }

@@ -87,7 +87,10 @@ const ACTIONS: [(&str, &str); 16] = [
     ("NULL before a statement", "NULL; r<=a"),
     ("a list for a condition", "=>(1)/(1)"),
     ("a list that goes on as an expression", "=>(1,2$1)/(1)"),
-    ("an expression that begins with an integer", "=>(2$1,a)/(1,1,1)"),
+    (
+        "an expression that begins with an integer",
+        "=>(2$1,a)/(1,1,1)",
+    ),
     ("a connection under a condition", "o*(a)=a"),
     ("a condition without an expression", "r*()<=a"),
     ("a subscript of three integers", "s[0:1:1]<=a"),
