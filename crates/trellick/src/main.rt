@@ -1,12 +1,13 @@
-//! Reads the module text `module.ahpl` of the folder that it is run in, and prints what it read, or why the text is refused.
+//! Reads the module text `module.ahpl` of the folder that it is run in, or of the folder that it is given, and prints what it
+//! read, or why the text is refused.
 #![tactic(auto)]
 
 use anyhow::Context;
 use fault::Fault;
 use grammar::{Class, Draft, Item, Leaving, Name, Step};
 use std::alloc::AllocError;
-use std::fs;
 use std::process::ExitCode;
+use std::{env, fs};
 use text::Reader;
 
 /// The file that is read.
@@ -106,8 +107,17 @@ fn leaving_name(leaving: Leaving) -> &'static str {
     }
 }
 
+// The path of the module text.
+fn module_path(rt: &HostRuntime) -> anyhow::Result<String> {
+    match env::args(rt)?.nth(1) {
+        Some(folder) => Ok(format!(in rt.alloc(); "{folder}/{MODULE}")?),
+        None => Ok(String::from_str(rt.alloc(), MODULE)?),
+    }
+}
+
 fn main(rt: HostRuntime) -> anyhow::Result<ExitCode> {
-    let text = fs::read(&rt, MODULE).context(MODULE)?;
+    let path = module_path(&rt)?;
+    let text = fs::read(&rt, path.as_str()).context(path.as_str())?;
     let text = text.as_slice();
     let mut reader = Reader::new(rt.alloc())?;
     match reader.read(text) {
