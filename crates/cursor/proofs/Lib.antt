@@ -1,3 +1,4 @@
 pub mod Words
 pub mod Steps
 pub mod MoreSteps
+pub mod Room

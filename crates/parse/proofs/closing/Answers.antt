@@ -2,7 +2,8 @@ use Rattle.std.proofs.Common.{arith}
 use Rattle.grammar.specs.Trees.{both}
 use Rattle.parse.proofs.Turns.{turns}
 use Rattle.std.proofs.lemmas.Result.{err_from_is_err_and}
-use Rattle.statements.proofs.Room.{room_less, room_stop}
+use Rattle.grammar.proofs.Room.{rows_room_less}
+use Rattle.cursor.proofs.Room.{room_stop}
 use Rattle.parse.proofs.closing.Goals as goal
 
 pub returns-clause-told : goal.returns-clause-told
@@ -24,4 +25,4 @@ returns-in_err-take-3-clause-room c = λ limit slack r.
 
 pub returns-clause-room : goal.returns-clause-room
 returns-clause-room c = λ limit slack r.
-    room_less limit _ _ _ (omega (arith, c.in_ok-take.ensures.forward, c.in_ok-take-2.ensures.forward, c.in_ok-take-3.ensures.forward)) (c.in_ok-connections.ensures.room limit slack r)
+    rows_room_less limit _ _ _ (omega (arith, c.in_ok-take.ensures.forward, c.in_ok-take-2.ensures.forward, c.in_ok-take-3.ensures.forward)) (c.in_ok-connections.ensures.room limit slack r)

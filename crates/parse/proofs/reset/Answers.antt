@@ -2,7 +2,7 @@ use Rattle.std.proofs.Common.{arith}
 use Rattle.std.proofs.lemmas.Grind.{common_steps}
 use Rattle.grammar.specs.Promise.{deepest}
 use Rattle.parse.proofs.Turns.{turns}
-use Rattle.parse.proofs.Room.{with_resets_room}
+use Rattle.grammar.proofs.Room.{with_resets_room}
 use Rattle.parse.proofs.reset.Goals as goal
 
 pub returns-in_err-integers-clause-told : goal.returns-in_err-integers-clause-told

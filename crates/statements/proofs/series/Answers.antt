@@ -5,7 +5,7 @@ use Rattle.grammar.specs.Drafts.{row_lists, branch_rows, series_rows}
 use Rattle.grammar.specs.Trees.{closing}
 use Rattle.statements.proofs.Steps.{gave_on}
 use Rattle.statements.proofs.Turns.{turns_start, turns_stop, turns_last, turns_turn, turns_branch}
-use Rattle.statements.proofs.Room.{room_less}
+use Rattle.grammar.proofs.Room.{rows_room_less}
 use Rattle.statements.proofs.series.Goals as goal
 
 pub more-init : goal.more-init
@@ -18,7 +18,7 @@ pub returns-then-not-at-clause-told : goal.returns-then-not-at-clause-told
 returns-then-not-at-clause-told c = turns_last deepest c.args.step c.args.cursor.now (row_lists c.args.rows.now) c.more.cursor (row_lists c.more.rows) c.more.invariant.goes c.at.result c.at.ensures c.more-test.true c.statement.new.cursor (row_lists c.statement.new.rows) c.in_ok-statement.ensures.told (sym c.at-in-more.ensures ∙ c.if-not-at.true)
 
 pub more-preserved : goal.more-preserved
-more-preserved c = record { goes = turns_turn deepest c.args.step c.args.cursor.now (row_lists c.args.rows.now) c.more.cursor (row_lists c.more.rows) c.more.invariant.goes c.at.result c.at.ensures c.more-test.true c.statement.new.cursor (row_lists c.statement.new.rows) c.in_ok-statement.ensures.told c.in_ok-take.field-0 c.take.new.self c.in_ok-take.ensures.told (omega (arith, c.in_ok-statement.ensures.forward, c.in_ok-take.ensures.forward)); shorter = omega (arith, c.in_ok-statement.ensures.forward, c.in_ok-take.ensures.forward); room = λ limit slack r. room_less limit _ _ _ (omega (arith, c.in_ok-take.ensures.forward)) (c.in_ok-statement.ensures.room limit slack (c.more.invariant.room limit slack r)) }
+more-preserved c = record { goes = turns_turn deepest c.args.step c.args.cursor.now (row_lists c.args.rows.now) c.more.cursor (row_lists c.more.rows) c.more.invariant.goes c.at.result c.at.ensures c.more-test.true c.statement.new.cursor (row_lists c.statement.new.rows) c.in_ok-statement.ensures.told c.in_ok-take.field-0 c.take.new.self c.in_ok-take.ensures.told (omega (arith, c.in_ok-statement.ensures.forward, c.in_ok-take.ensures.forward)); shorter = omega (arith, c.in_ok-statement.ensures.forward, c.in_ok-take.ensures.forward); room = λ limit slack r. rows_room_less limit _ _ _ (omega (arith, c.in_ok-take.ensures.forward)) (c.in_ok-statement.ensures.room limit slack (c.more.invariant.room limit slack r)) }
 
 pub returns-clause-told : goal.returns-clause-told
 returns-clause-told c = gave_on (turns_branch deepest c.args.step c.args.cursor.now (row_lists c.args.rows.now) c.more.cursor (row_lists c.more.rows) c.more.invariant.goes c.at.result c.at.ensures c.more-test.false) (row_lists c.args.rows.now) (row_lists c.more.rows) (row_lists c.branch-cursor.new.rows) c.branch-cursor.new.cursor (series_rows c.args.step) (branch_rows c.args.step) (λ t. c.more.invariant.goes.rows (closing t)) c.branch-cursor.result c.branch-cursor.ensures.told
