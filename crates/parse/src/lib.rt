@@ -1,5 +1,5 @@
 //! The readers of declarations and of a whole module.
-#![tactic(auto, using(crate::proofs::Turns::turns))]
+#![tactic(auto, using(cursor::proofs::Reading::reading))]
 
 ghost use Rattle.std.specs.Prelude.{◌≡◌, ◌<◌, ◌≤◌, ◌||◌, length, OnOk, IfErr};
 ghost use Rattle.words.specs.declared.token.Sign.TheVariants.{Semicolon};
