@@ -15,6 +15,15 @@ use grammar::{Condition, Exit, Leaving, Listed, Rows, Statement, StatementKind, 
 use terms::{expression, reference};
 use words::{Keyword, Sign};
 
+// What is known of a statement when its sign is read.
+#[derive(Clone, Copy)]
+struct Head {
+    place: usize,
+    step: Option<usize>,
+    kind: StatementKind,
+    condition: Option<Condition>,
+}
+
 /// Reads a connection behind CONTROLRESET.
 pub fn connection(cursor: &mut Cursor<'_>, rows: &mut Rows) -> Result<(), Stop>
     ensures told { Wrote (read deepest conn cursor.old) conn_rows (row_lists rows.old) result cursor.new (row_lists rows.new) }
@@ -78,19 +87,10 @@ fn targets(cursor: &mut Cursor<'_>, rows: &mut Rows) -> Result<usize, Stop>
     ensures room { RowsRoomKept result cursor.old cursor.new rows.old rows.new }
 {
     let place = one_target(cursor, rows, None)?;
-    'more: while cursor.at(Sign::Comma) {
+    while cursor.at(Sign::Comma) {
         next_target(cursor, rows)?;
     }
     Ok(place)
-}
-
-// What is known of a statement when its sign is read.
-#[derive(Clone, Copy)]
-struct Head {
-    place: usize,
-    step: Option<usize>,
-    kind: StatementKind,
-    condition: Option<Condition>,
 }
 
 // Reads the value of a statement, and keeps the statement.
@@ -228,7 +228,7 @@ fn exits(cursor: &mut Cursor<'_>, rows: &mut Rows, step: usize) -> Result<(), St
     ensures room { RowsRoomKept result cursor.old cursor.new rows.old rows.new }
 {
     exit(cursor, rows, step, None)?;
-    'more: while cursor.at(Sign::Comma) {
+    while cursor.at(Sign::Comma) {
         next_exit(cursor, rows, step)?;
     }
     Ok(())
@@ -272,7 +272,7 @@ fn series(cursor: &mut Cursor<'_>, rows: &mut Rows, step: usize) -> Result<Leavi
     ensures forward { OnOk result (length cursor.new < length cursor.old) }
     ensures room { RowsRoomKept result cursor.old cursor.new rows.old rows.new }
 {
-    'more: while !cursor.at(Sign::Branch) {
+    while !cursor.at(Sign::Branch) {
         statement(cursor, rows, step)?;
         if !cursor.at(Sign::Semicolon) {
             return Ok(Leaving::Next);
