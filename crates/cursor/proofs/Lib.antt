@@ -1,3 +1,5 @@
 pub mod Words
 pub mod Steps
 pub mod MoreSteps
+pub mod Reading
+pub mod Room

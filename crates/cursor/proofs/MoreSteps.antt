@@ -1,4 +1,4 @@
--- What taking a sign tells of a list of parts that the sign parts, for the readers to come. Assumes nothing.
+-- What taking a sign tells of a choice, of a list of parts that the sign parts, and of a nesting part, for the readers of expressions. Assumes nothing.
 use Rattle.std.proofs.Common.{◌≡◌, ℕ, ◌+◌, ◌<◌, true, false, List, length, Result, Ok, Err, MatchResult, sym, ap, ◌∙◌, add-one, arith}
 use Rattle.words.specs.declared.token.Sign.{Sign}
 use Rattle.words.specs.declared.token.Token.{Token}

@@ -1,4 +1,4 @@
--- How what a rule comes to follows from what its parts come to, for the readers to come. Assumes nothing.
+-- How what a rule comes to follows from what its parts come to, for the readers of parts of a module. Assumes nothing.
 use Rattle.std.proofs.Common.{◌≡◌, ℕ, suc, ◌-◌, ◌<◌, ◌≤◌, true, false, List, length, sym, refl, ap, ◌∙◌, arith}
 use Rattle.std.proofs.lemmas.Bool.{cond-true, cond-false}
 use Rattle.words.specs.declared.token.Token.{Token}

@@ -1,11 +1,14 @@
 -- What a reader tells, beside what its rule comes to. Assumes nothing.
-use Rattle.std.specs.Prelude.{◌≡◌, ℕ, List, Ok, Err, Result}
+use Rattle.std.specs.Prelude.{◌≡◌, ℕ, ◌+◌, List, length, Ok, Err, Result, Vec}
 use Rattle.words.specs.declared.token.Sign.{Sign}
 use Rattle.words.specs.declared.token.Keyword.{Keyword}
 use Rattle.words.specs.declared.token.Token.{Token}
 use Rattle.grammar.specs.Rules.{mark, keyword}
 use Rattle.grammar.specs.Trees.{Tree, mark_at, keyword_at}
+use Rattle.grammar.specs.declared.draft.Terms.{Terms}
+use Rattle.grammar.specs.declared.draft.Rows.{Rows}
 use Rattle.grammar.specs.Reading.{Out, got, wrong, deep}
+use Rattle.grammar.specs.Room.{Reserved, HasRoom, TermsReserved, TermsRoom, RowsReserved, RowsRoom}
 use Rattle.cursor.specs.declared.stop.Stop.{Stop}
 use Rattle.cursor.specs.declared.stop.Stop.TheVariants.{Unexpected, TooDeep, OutOfMemory}
 
@@ -27,7 +30,6 @@ abbrev pub Told : {A V : Type 0} → Out A → (A → V) → Result V Stop → L
 Told {A = A} o f (Ok v) rest = (t : A) × (o ≡ got t rest) × (v ≡ f t)
 Told o f (Err e) rest = Stopped o e rest
 
--- The next two are for the readers to come.
 -- a reader that writes: rows before it become the rows after it by f of what it reads
 abbrev pub Wrote : {A V D : Type 0} → Out A → (A → D → D) → D → Result V Stop → List Token → D → Type 0
 Wrote {A = A} o f before (Ok v) rest after = (t : A) × (o ≡ got t rest) × (after ≡ f t before)
@@ -45,3 +47,15 @@ RoomLeft (Ok v) room reserved = room
 RoomLeft (Err Unexpected) room reserved = reserved
 RoomLeft (Err TooDeep) room reserved = reserved
 RoomLeft (Err OutOfMemory) room reserved = ⊥
+
+-- such a reader of all tables, from the words before it to those after it
+abbrev pub RowsRoomKept : {V : Type 0} → Result V Stop → List Token → List Token → Rows → Rows → Type 0
+RowsRoomKept result before after old new = (limit slack : ℕ) → RowsRoom limit (length before + slack) old → RoomLeft result (RowsRoom limit (length after + slack) new) (RowsReserved limit new)
+
+-- of the tables of expressions
+abbrev pub TermsRoomKept : {V : Type 0} → Result V Stop → List Token → List Token → Terms → Terms → Type 0
+TermsRoomKept result before after old new = (limit slack : ℕ) → TermsRoom limit (length before + slack) old → RoomLeft result (TermsRoom limit (length after + slack) new) (TermsReserved limit new)
+
+-- of a single table
+abbrev pub ListRoomKept : {A H : Type 0} {V : Type 0} → Result V Stop → List Token → List Token → Vec A H → Vec A H → Type 0
+ListRoomKept result before after old new = (limit slack : ℕ) → HasRoom limit (length before + slack) old → RoomLeft result (HasRoom limit (length after + slack) new) (Reserved limit new)

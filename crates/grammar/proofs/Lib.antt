@@ -3,3 +3,4 @@ pub mod Shapes
 pub mod Steps
 pub mod Reading
 pub mod Laws
+pub mod Room

@@ -1,15 +1,14 @@
 //! The readers of declarations and of a whole module.
-#![tactic(auto, using(crate::proofs::Turns::turns))]
+#![tactic(auto, using(cursor::proofs::Reading::reading))]
 
-ghost use Rattle.std.specs.Prelude.{◌≡◌, ℕ, ◌+◌, ◌<◌, ◌≤◌, ◌||◌, length, OnOk, IfErr};
+ghost use Rattle.std.specs.Prelude.{◌≡◌, ◌<◌, ◌≤◌, ◌||◌, length, OnOk, IfErr};
 ghost use Rattle.words.specs.declared.token.Sign.TheVariants.{Semicolon};
 ghost use Rattle.grammar.specs.Sorts.{sort, starts};
 ghost use Rattle.grammar.specs.Rules.{mark, ◌then◌, many, list_of, conn, item as item_rule, class as class_rule, decl, step as step_rule, unit};
 ghost use Rattle.grammar.specs.Reading.{read};
 ghost use Rattle.grammar.specs.Promise.{deepest};
 ghost use Rattle.grammar.specs.Drafts.{row_lists, width_of, item_rows, class_of, decl_rows, more_decls, more_steps, conn_rows, more_conns};
-ghost use Rattle.grammar.specs.Room.{RowsRoom, RowsReserved};
-ghost use Rattle.cursor.specs.Told.{Told, Wrote, Gave, RoomLeft};
+ghost use Rattle.cursor.specs.Told.{Told, Wrote, Gave, RowsRoomKept};
 ghost use Rattle.parse.specs.Parts.{width as width_rule, item_row, behind, closing as closing_rule, closing_rows, reset as reset_rule, reset_and_closing_rows, control as control_rule, control_rows, body as body_rule, body_given, contents as contents_rule, contents_given, unit_given};
 
 use cursor::{AnyInteger, AnyName, Cursor, Stop};
@@ -37,7 +36,7 @@ fn width(cursor: &mut Cursor<'_>) -> Result<Option<Number>, Stop>
 fn item(cursor: &mut Cursor<'_>, class: Class, rows: &mut Rows) -> Result<(), Stop>
     ensures told { Wrote (read deepest item_rule cursor.old) (item_row class) (row_lists rows.old) result cursor.new (row_lists rows.new) }
     ensures forward { OnOk result (length cursor.new < length cursor.old) }
-    ensures room { (limit slack : ℕ) → RowsRoom limit (length cursor.old + slack) rows.old → RoomLeft result (RowsRoom limit (length cursor.new + slack) rows.new) (RowsReserved limit rows.new) }
+    ensures room { RowsRoomKept result cursor.old cursor.new rows.old rows.new }
 {
     let name = cursor.take(AnyName)?;
     let width = width(cursor)?;
@@ -49,7 +48,7 @@ fn item(cursor: &mut Cursor<'_>, class: Class, rows: &mut Rows) -> Result<(), St
 fn next_item(cursor: &mut Cursor<'_>, class: Class, rows: &mut Rows) -> Result<(), Stop>
     ensures told { Wrote (read deepest (mark Semicolon then item_rule) cursor.old) (behind (item_row class)) (row_lists rows.old) result cursor.new (row_lists rows.new) }
     ensures forward { OnOk result (length cursor.new < length cursor.old) }
-    ensures room { (limit slack : ℕ) → RowsRoom limit (length cursor.old + slack) rows.old → RoomLeft result (RowsRoom limit (length cursor.new + slack) rows.new) (RowsReserved limit rows.new) }
+    ensures room { RowsRoomKept result cursor.old cursor.new rows.old rows.new }
 {
     cursor.take(Sign::Semicolon)?;
     item(cursor, class, rows)
@@ -59,7 +58,7 @@ fn next_item(cursor: &mut Cursor<'_>, class: Class, rows: &mut Rows) -> Result<(
 fn items(cursor: &mut Cursor<'_>, class: Class, rows: &mut Rows) -> Result<(), Stop>
     ensures told { Wrote (read deepest (list_of item_rule Semicolon) cursor.old) (item_rows class) (row_lists rows.old) result cursor.new (row_lists rows.new) }
     ensures forward { OnOk result (length cursor.new < length cursor.old) }
-    ensures room { (limit slack : ℕ) → RowsRoom limit (length cursor.old + slack) rows.old → RoomLeft result (RowsRoom limit (length cursor.new + slack) rows.new) (RowsReserved limit rows.new) }
+    ensures room { RowsRoomKept result cursor.old cursor.new rows.old rows.new }
 {
     item(cursor, class, rows)?;
     while cursor.at(Sign::Semicolon) {
@@ -104,7 +103,7 @@ fn at_declaration(cursor: &Cursor<'_>) -> bool
 fn declaration(cursor: &mut Cursor<'_>, rows: &mut Rows) -> Result<(), Stop>
     ensures told { Wrote (read deepest decl cursor.old) decl_rows (row_lists rows.old) result cursor.new (row_lists rows.new) }
     ensures forward { OnOk result (length cursor.new < length cursor.old) }
-    ensures room { (limit slack : ℕ) → RowsRoom limit (length cursor.old + slack) rows.old → RoomLeft result (RowsRoom limit (length cursor.new + slack) rows.new) (RowsReserved limit rows.new) }
+    ensures room { RowsRoomKept result cursor.old cursor.new rows.old rows.new }
 {
     let class = class(cursor)?;
     cursor.take(Sign::Colon)?;
@@ -117,7 +116,7 @@ fn declaration(cursor: &mut Cursor<'_>, rows: &mut Rows) -> Result<(), Stop>
 fn declarations(cursor: &mut Cursor<'_>, rows: &mut Rows) -> Result<(), Stop>
     ensures told { Wrote (read deepest (many decl) cursor.old) more_decls (row_lists rows.old) result cursor.new (row_lists rows.new) }
     ensures forward { OnOk result (length cursor.new ≤ length cursor.old) }
-    ensures room { (limit slack : ℕ) → RowsRoom limit (length cursor.old + slack) rows.old → RoomLeft result (RowsRoom limit (length cursor.new + slack) rows.new) (RowsReserved limit rows.new) }
+    ensures room { RowsRoomKept result cursor.old cursor.new rows.old rows.new }
 {
     while at_declaration(cursor) {
         declaration(cursor, rows)?;
@@ -129,7 +128,7 @@ fn declarations(cursor: &mut Cursor<'_>, rows: &mut Rows) -> Result<(), Stop>
 fn steps(cursor: &mut Cursor<'_>, rows: &mut Rows) -> Result<(), Stop>
     ensures told { Wrote (read deepest (many step_rule) cursor.old) more_steps (row_lists rows.old) result cursor.new (row_lists rows.new) }
     ensures forward { OnOk result (length cursor.new ≤ length cursor.old) }
-    ensures room { (limit slack : ℕ) → RowsRoom limit (length cursor.old + slack) rows.old → RoomLeft result (RowsRoom limit (length cursor.new + slack) rows.new) (RowsReserved limit rows.new) }
+    ensures room { RowsRoomKept result cursor.old cursor.new rows.old rows.new }
 {
     while cursor.at(AnyInteger) {
         step(cursor, rows)?;
@@ -141,7 +140,7 @@ fn steps(cursor: &mut Cursor<'_>, rows: &mut Rows) -> Result<(), Stop>
 fn next_connection(cursor: &mut Cursor<'_>, rows: &mut Rows) -> Result<(), Stop>
     ensures told { Wrote (read deepest (mark Semicolon then conn) cursor.old) (behind conn_rows) (row_lists rows.old) result cursor.new (row_lists rows.new) }
     ensures forward { OnOk result (length cursor.new < length cursor.old) }
-    ensures room { (limit slack : ℕ) → RowsRoom limit (length cursor.old + slack) rows.old → RoomLeft result (RowsRoom limit (length cursor.new + slack) rows.new) (RowsReserved limit rows.new) }
+    ensures room { RowsRoomKept result cursor.old cursor.new rows.old rows.new }
 {
     cursor.take(Sign::Semicolon)?;
     connection(cursor, rows)
@@ -151,7 +150,7 @@ fn next_connection(cursor: &mut Cursor<'_>, rows: &mut Rows) -> Result<(), Stop>
 fn connections(cursor: &mut Cursor<'_>, rows: &mut Rows) -> Result<(), Stop>
     ensures told { Wrote (read deepest (many (mark Semicolon then conn)) cursor.old) more_conns (row_lists rows.old) result cursor.new (row_lists rows.new) }
     ensures forward { OnOk result (length cursor.new ≤ length cursor.old) }
-    ensures room { (limit slack : ℕ) → RowsRoom limit (length cursor.old + slack) rows.old → RoomLeft result (RowsRoom limit (length cursor.new + slack) rows.new) (RowsReserved limit rows.new) }
+    ensures room { RowsRoomKept result cursor.old cursor.new rows.old rows.new }
 {
     while cursor.at(Sign::Semicolon) {
         next_connection(cursor, rows)?;
@@ -162,7 +161,7 @@ fn connections(cursor: &mut Cursor<'_>, rows: &mut Rows) -> Result<(), Stop>
 // Reads a module from behind the list of CONTROLRESET on.
 fn closing(cursor: &mut Cursor<'_>, rows: &mut Rows) -> Result<(), Stop>
     ensures told { Wrote (read deepest closing_rule cursor.old) closing_rows (row_lists rows.old) result cursor.new (row_lists rows.new) }
-    ensures room { (limit slack : ℕ) → RowsRoom limit (length cursor.old + slack) rows.old → RoomLeft result (RowsRoom limit (length cursor.new + slack) rows.new) (RowsReserved limit rows.new) }
+    ensures room { RowsRoomKept result cursor.old cursor.new rows.old rows.new }
 {
     connections(cursor, rows)?;
     cursor.take(Sign::Dot)?;
@@ -174,7 +173,7 @@ fn closing(cursor: &mut Cursor<'_>, rows: &mut Rows) -> Result<(), Stop>
 // Reads a module from ENDSEQUENCE on: the steps that CONTROLRESET enters, and what is behind them.
 fn reset(cursor: &mut Cursor<'_>, rows: &mut Rows) -> Result<(), Stop>
     ensures told { Wrote (read deepest reset_rule cursor.old) reset_and_closing_rows (row_lists rows.old) result cursor.new (row_lists rows.new) }
-    ensures room { (limit slack : ℕ) → RowsRoom limit (length cursor.old + slack) rows.old → RoomLeft result (RowsRoom limit (length cursor.new + slack) rows.new) (RowsReserved limit rows.new) }
+    ensures room { RowsRoomKept result cursor.old cursor.new rows.old rows.new }
 {
     cursor.take(Keyword::EndSequence)?;
     cursor.take(Keyword::ControlReset)?;
@@ -187,7 +186,7 @@ fn reset(cursor: &mut Cursor<'_>, rows: &mut Rows) -> Result<(), Stop>
 // Reads a module from its first control step on.
 fn control(cursor: &mut Cursor<'_>, rows: &mut Rows) -> Result<(), Stop>
     ensures told { Wrote (read deepest control_rule cursor.old) control_rows (row_lists rows.old) result cursor.new (row_lists rows.new) }
-    ensures room { (limit slack : ℕ) → RowsRoom limit (length cursor.old + slack) rows.old → RoomLeft result (RowsRoom limit (length cursor.new + slack) rows.new) (RowsReserved limit rows.new) }
+    ensures room { RowsRoomKept result cursor.old cursor.new rows.old rows.new }
 {
     step(cursor, rows)?;
     steps(cursor, rows)?;
@@ -197,7 +196,7 @@ fn control(cursor: &mut Cursor<'_>, rows: &mut Rows) -> Result<(), Stop>
 // Reads a module from BODY on, and answers the clock's name.
 fn body(cursor: &mut Cursor<'_>, rows: &mut Rows) -> Result<Name, Stop>
     ensures told { Gave (read deepest body_rule cursor.old) body_given (row_lists rows.old) result cursor.new (row_lists rows.new) }
-    ensures room { (limit slack : ℕ) → RowsRoom limit (length cursor.old + slack) rows.old → RoomLeft result (RowsRoom limit (length cursor.new + slack) rows.new) (RowsReserved limit rows.new) }
+    ensures room { RowsRoomKept result cursor.old cursor.new rows.old rows.new }
 {
     cursor.take(Keyword::Body)?;
     cursor.take(Keyword::Sequence)?;
@@ -211,7 +210,7 @@ fn body(cursor: &mut Cursor<'_>, rows: &mut Rows) -> Result<Name, Stop>
 // Reads a module from its first declaration on, and answers the clock's name.
 fn contents(cursor: &mut Cursor<'_>, rows: &mut Rows) -> Result<Name, Stop>
     ensures told { Gave (read deepest contents_rule cursor.old) contents_given (row_lists rows.old) result cursor.new (row_lists rows.new) }
-    ensures room { (limit slack : ℕ) → RowsRoom limit (length cursor.old + slack) rows.old → RoomLeft result (RowsRoom limit (length cursor.new + slack) rows.new) (RowsReserved limit rows.new) }
+    ensures room { RowsRoomKept result cursor.old cursor.new rows.old rows.new }
 {
     declaration(cursor, rows)?;
     declarations(cursor, rows)?;
@@ -221,7 +220,7 @@ fn contents(cursor: &mut Cursor<'_>, rows: &mut Rows) -> Result<Name, Stop>
 /// Reads a module: its rows come behind those that stand already, and its names are answered. What stands behind it is left.
 pub fn parse_module(cursor: &mut Cursor<'_>, rows: &mut Rows) -> Result<Heading, Stop>
     ensures told { Gave (read deepest unit cursor.old) unit_given (row_lists rows.old) result cursor.new (row_lists rows.new) }
-    ensures room { (limit slack : ℕ) → RowsRoom limit (length cursor.old + slack) rows.old → RoomLeft result (RowsRoom limit (length cursor.new + slack) rows.new) (RowsReserved limit rows.new) }
+    ensures room { RowsRoomKept result cursor.old cursor.new rows.old rows.new }
 {
     cursor.take(Keyword::Module)?;
     cursor.take(Sign::Colon)?;

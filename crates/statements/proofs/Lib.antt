@@ -2,4 +2,3 @@ pub mod Steps
 pub mod Lists
 pub mod Parts
 pub mod Turns
-pub mod Room

@@ -1,39 +1,16 @@
 -- How what a rule comes to follows from what the cursor and the readers of its parts tell. Assumes nothing.
-use Rattle.std.proofs.Common.{◌≡◌, ℕ, Bool, true, false, cond, List, Ok, Err, Result, refl, sym, ap, ◌∙◌, arith}
+use Rattle.std.proofs.Common.{◌≡◌, ℕ, Bool, true, false, List, Ok, Err, Result, refl, sym, ap, ◌∙◌, arith}
 use Rattle.std.proofs.lemmas.Bool.{cond-true, cond-false}
 use Rattle.words.specs.declared.token.Sign.{Sign}
-use Rattle.words.specs.declared.token.Keyword.{Keyword}
 use Rattle.words.specs.declared.token.Token.{Token}
-use Rattle.grammar.specs.Rules.{Rule, mark, keyword, integer, ◌then◌, either, fork}
+use Rattle.grammar.specs.Rules.{Rule, mark, ◌then◌, either, fork}
 use Rattle.grammar.specs.Sorts.{sort, starts}
 use Rattle.grammar.specs.Trees.{Tree, mark_at, both, left, right, one, other}
-use Rattle.grammar.specs.Reading.{Out, got, wrong, deep, and_then, map_out, read_word, plain, read_with, read}
+use Rattle.grammar.specs.Reading.{Out, got, wrong, deep, map_out, read_word, plain, read_with, read}
 use Rattle.cursor.specs.declared.stop.Stop.{Stop}
 use Rattle.cursor.specs.Told.{mark_place, Stopped, Told, Wrote, Gave}
 use Rattle.cursor.proofs.Steps.{stop_by, word_is, starts_then}
-
--- What a rule comes to, by its parts. Where a `?` stops, this tells that the rule stops there.
-module _ (n : ℕ) where
-  pub read_mark : (s : Sign) (ws : List Token) → read n (mark s) ws ≡ read_word (mark s) ws
-  read_mark s ws = word_is n (mark s) tt ws
-
-  pub read_integer : (ws : List Token) → read n integer ws ≡ read_word integer ws
-  read_integer ws = word_is n integer tt ws
-
-  pub read_keyword : (k : Keyword) (ws : List Token) → read n (keyword k) ws ≡ read_word (keyword k) ws
-  read_keyword k ws = word_is n (keyword k) tt ws
-
-  pub read_then : (a b : Rule) (ws : List Token) → read n (a then b) ws ≡ and_then (read n a ws) (λ t us. map_out (both t) (read n b us))
-  unfolding read read_with
-  read_then a b ws = refl
-
-  pub read_either : (a b : Rule) (ws : List Token) → read n (either a b) ws ≡ cond (starts a (sort ws)) (map_out left (read n a ws)) (map_out right (read n b ws))
-  unfolding read read_with
-  read_either a b ws = refl
-
-  pub read_fork : (a b : Rule) (ws : List Token) → read n (fork a b) ws ≡ cond (plain ws) (map_out one (read n a ws)) (map_out other (read n b ws))
-  unfolding read read_with
-  read_fork a b ws = refl
+use Rattle.cursor.proofs.Reading.{reading}
 
 -- a sign says its place
 pub mark_is : {s : Sign} (t : Tree (mark s)) → mark_at (mark_place t) ≡ t
@@ -42,7 +19,8 @@ mark_is (mark_at p) = refl
 pub mark_got : (s : Sign) (ws us : List Token) (t : Tree (mark s)) → read_word (mark s) ws ≡ got t us → t ≡ mark_at (mark_place t)
 mark_got s ws us t e = sym (mark_is t)
 
-pub ruleset steps = (read_mark, read_integer, read_keyword, read_then, read_either, read_fork, mark_got)
+-- what a rule comes to; where a `?` stops, this tells that the rule stops there
+pub ruleset steps = (reading, mark_got)
 
 -- what is read, and h of it, from what h of the whole comes to
 pub was_read : {A D : Type 0} (o : Out A) (h : A → D) (after : D) (rest : List Token) → map_out h o ≡ got after rest → (t : A) × (o ≡ got t rest) × (after ≡ h t)

@@ -1,14 +1,13 @@
 //! The readers of connections, transfers, branches and steps.
 #![tactic(auto, using(crate::proofs::Steps::steps))]
 
-ghost use Rattle.std.specs.Prelude.{◌≡◌, ℕ, ◌+◌, ◌<◌, length, OnOk, Some};
+ghost use Rattle.std.specs.Prelude.{◌≡◌, ◌<◌, length, OnOk, Some};
 ghost use Rattle.words.specs.declared.token.Sign.TheVariants.{Comma, Semicolon};
 ghost use Rattle.grammar.specs.Rules.{conn, step as step_rule, targets as targets_rule, stmt, branch as branch_rule, action as action_rule, ref, integer, integers, ◌then◌, mark, series as series_rule, expr};
 ghost use Rattle.grammar.specs.Reading.{read};
 ghost use Rattle.grammar.specs.Promise.{deepest};
 ghost use Rattle.grammar.specs.Drafts.{row_lists, with_target, target_at, ref_of, targets_place, target_rows, value_rows, head_at, conn_rows, stmt_rows, branch_rows, series_rows, action_rows, step_rows};
-ghost use Rattle.grammar.specs.Room.{RowsRoom, RowsReserved};
-ghost use Rattle.cursor.specs.Told.{Wrote, Gave, RoomLeft};
+ghost use Rattle.cursor.specs.Told.{Wrote, Gave, RowsRoomKept};
 ghost use Rattle.statements.specs.Parts.{conditional as conditional_rule, assignment as assignment_rule, condition_branch, next_target_rows, condition_given, assigned_rows, conditional_rows, assignment_rows, one_exit, next_exit_rows, exits_written, condition_branch_rows};
 
 use cursor::{AnyInteger, Cursor, Stop};
@@ -16,11 +15,20 @@ use grammar::{Condition, Exit, Leaving, Listed, Rows, Statement, StatementKind, 
 use terms::{expression, reference};
 use words::{Keyword, Sign};
 
+// What is known of a statement when its sign is read.
+#[derive(Clone, Copy)]
+struct Head {
+    place: usize,
+    step: Option<usize>,
+    kind: StatementKind,
+    condition: Option<Condition>,
+}
+
 /// Reads a connection behind CONTROLRESET.
 pub fn connection(cursor: &mut Cursor<'_>, rows: &mut Rows) -> Result<(), Stop>
     ensures told { Wrote (read deepest conn cursor.old) conn_rows (row_lists rows.old) result cursor.new (row_lists rows.new) }
     ensures forward { OnOk result (length cursor.new < length cursor.old) }
-    ensures room { (limit slack : ℕ) → RowsRoom limit (length cursor.old + slack) rows.old → RoomLeft result (RowsRoom limit (length cursor.new + slack) rows.new) (RowsReserved limit rows.new) }
+    ensures room { RowsRoomKept result cursor.old cursor.new rows.old rows.new }
 {
     let place = targets(cursor, rows)?;
     let head = Head {
@@ -36,7 +44,7 @@ pub fn connection(cursor: &mut Cursor<'_>, rows: &mut Rows) -> Result<(), Stop>
 pub fn step(cursor: &mut Cursor<'_>, rows: &mut Rows) -> Result<(), Stop>
     ensures told { Wrote (read deepest step_rule cursor.old) step_rows (row_lists rows.old) result cursor.new (row_lists rows.new) }
     ensures forward { OnOk result (length cursor.new < length cursor.old) }
-    ensures room { (limit slack : ℕ) → RowsRoom limit (length cursor.old + slack) rows.old → RoomLeft result (RowsRoom limit (length cursor.new + slack) rows.new) (RowsReserved limit rows.new) }
+    ensures room { RowsRoomKept result cursor.old cursor.new rows.old rows.new }
 {
     let number = rows.steps.len() + 1;
     let integer = cursor.take(AnyInteger)?;
@@ -50,7 +58,7 @@ pub fn step(cursor: &mut Cursor<'_>, rows: &mut Rows) -> Result<(), Stop>
 fn one_target(cursor: &mut Cursor<'_>, rows: &mut Rows, comma: Option<usize>) -> Result<usize, Stop>
     ensures told { Gave (read deepest ref cursor.old) (λ r d. ((ref_of r).name.place, with_target d (target_at d comma r))) (row_lists rows.old) result cursor.new (row_lists rows.new) }
     ensures forward { OnOk result (length cursor.new < length cursor.old) }
-    ensures room { (limit slack : ℕ) → RowsRoom limit (length cursor.old + slack) rows.old → RoomLeft result (RowsRoom limit (length cursor.new + slack) rows.new) (RowsReserved limit rows.new) }
+    ensures room { RowsRoomKept result cursor.old cursor.new rows.old rows.new }
 {
     let reference = reference(cursor)?;
     rows.targets.push(Target {
@@ -65,7 +73,7 @@ fn one_target(cursor: &mut Cursor<'_>, rows: &mut Rows, comma: Option<usize>) ->
 fn next_target(cursor: &mut Cursor<'_>, rows: &mut Rows) -> Result<(), Stop>
     ensures told { Wrote (read deepest (mark Comma then ref) cursor.old) next_target_rows (row_lists rows.old) result cursor.new (row_lists rows.new) }
     ensures forward { OnOk result (length cursor.new < length cursor.old) }
-    ensures room { (limit slack : ℕ) → RowsRoom limit (length cursor.old + slack) rows.old → RoomLeft result (RowsRoom limit (length cursor.new + slack) rows.new) (RowsReserved limit rows.new) }
+    ensures room { RowsRoomKept result cursor.old cursor.new rows.old rows.new }
 {
     let comma = cursor.take(Sign::Comma)?;
     one_target(cursor, rows, Some(comma))?;
@@ -76,29 +84,20 @@ fn next_target(cursor: &mut Cursor<'_>, rows: &mut Rows) -> Result<(), Stop>
 fn targets(cursor: &mut Cursor<'_>, rows: &mut Rows) -> Result<usize, Stop>
     ensures told { Gave (read deepest targets_rule cursor.old) (λ ts d. (targets_place ts, target_rows ts d)) (row_lists rows.old) result cursor.new (row_lists rows.new) }
     ensures forward { OnOk result (length cursor.new < length cursor.old) }
-    ensures room { (limit slack : ℕ) → RowsRoom limit (length cursor.old + slack) rows.old → RoomLeft result (RowsRoom limit (length cursor.new + slack) rows.new) (RowsReserved limit rows.new) }
+    ensures room { RowsRoomKept result cursor.old cursor.new rows.old rows.new }
 {
     let place = one_target(cursor, rows, None)?;
-    'more: while cursor.at(Sign::Comma) {
+    while cursor.at(Sign::Comma) {
         next_target(cursor, rows)?;
     }
     Ok(place)
-}
-
-// What is known of a statement when its sign is read.
-#[derive(Clone, Copy)]
-struct Head {
-    place: usize,
-    step: Option<usize>,
-    kind: StatementKind,
-    condition: Option<Condition>,
 }
 
 // Reads the value of a statement, and keeps the statement.
 fn value(cursor: &mut Cursor<'_>, rows: &mut Rows, head: Head, sign: usize) -> Result<(), Stop>
     ensures told { Wrote (read deepest expr cursor.old) (value_rows (head_at head.place head.step head.kind head.condition sign)) (row_lists rows.old) result cursor.new (row_lists rows.new) }
     ensures forward { OnOk result (length cursor.new < length cursor.old) }
-    ensures room { (limit slack : ℕ) → RowsRoom limit (length cursor.old + slack) rows.old → RoomLeft result (RowsRoom limit (length cursor.new + slack) rows.new) (RowsReserved limit rows.new) }
+    ensures room { RowsRoomKept result cursor.old cursor.new rows.old rows.new }
 {
     let last_target = rows.targets.len();
     expression(cursor, &mut rows.terms, Some(last_target))?;
@@ -118,7 +117,7 @@ fn value(cursor: &mut Cursor<'_>, rows: &mut Rows, head: Head, sign: usize) -> R
 fn assigned(cursor: &mut Cursor<'_>, rows: &mut Rows, sign: Sign, head: Head) -> Result<(), Stop>
     ensures told { Wrote (read deepest (mark sign then expr) cursor.old) (assigned_rows head.place head.step head.kind head.condition) (row_lists rows.old) result cursor.new (row_lists rows.new) }
     ensures forward { OnOk result (length cursor.new < length cursor.old) }
-    ensures room { (limit slack : ℕ) → RowsRoom limit (length cursor.old + slack) rows.old → RoomLeft result (RowsRoom limit (length cursor.new + slack) rows.new) (RowsReserved limit rows.new) }
+    ensures room { RowsRoomKept result cursor.old cursor.new rows.old rows.new }
 {
     let sign = cursor.take(sign)?;
     value(cursor, rows, head, sign)
@@ -128,7 +127,7 @@ fn assigned(cursor: &mut Cursor<'_>, rows: &mut Rows, sign: Sign, head: Head) ->
 fn condition(cursor: &mut Cursor<'_>, rows: &mut Rows) -> Result<usize, Stop>
     ensures told { Gave (read deepest expr cursor.old) condition_given (row_lists rows.old) result cursor.new (row_lists rows.new) }
     ensures forward { OnOk result (length cursor.new < length cursor.old) }
-    ensures room { (limit slack : ℕ) → RowsRoom limit (length cursor.old + slack) rows.old → RoomLeft result (RowsRoom limit (length cursor.new + slack) rows.new) (RowsReserved limit rows.new) }
+    ensures room { RowsRoomKept result cursor.old cursor.new rows.old rows.new }
 {
     expression(cursor, &mut rows.terms, None)?;
     Ok(rows.terms.nodes.len())
@@ -143,7 +142,7 @@ fn conditional(
 ) -> Result<(), Stop>
     ensures told { Wrote (read deepest conditional_rule cursor.old) (conditional_rows place step) (row_lists rows.old) result cursor.new (row_lists rows.new) }
     ensures forward { OnOk result (length cursor.new < length cursor.old) }
-    ensures room { (limit slack : ℕ) → RowsRoom limit (length cursor.old + slack) rows.old → RoomLeft result (RowsRoom limit (length cursor.new + slack) rows.new) (RowsReserved limit rows.new) }
+    ensures room { RowsRoomKept result cursor.old cursor.new rows.old rows.new }
 {
     let star = cursor.take(Sign::Star)?;
     cursor.take(Sign::LeftParen)?;
@@ -167,7 +166,7 @@ fn assignment(
 ) -> Result<(), Stop>
     ensures told { Wrote (read deepest assignment_rule cursor.old) (assignment_rows place step) (row_lists rows.old) result cursor.new (row_lists rows.new) }
     ensures forward { OnOk result (length cursor.new < length cursor.old) }
-    ensures room { (limit slack : ℕ) → RowsRoom limit (length cursor.old + slack) rows.old → RoomLeft result (RowsRoom limit (length cursor.new + slack) rows.new) (RowsReserved limit rows.new) }
+    ensures room { RowsRoomKept result cursor.old cursor.new rows.old rows.new }
 {
     let head = Head {
         place,
@@ -189,7 +188,7 @@ fn assignment(
 fn statement(cursor: &mut Cursor<'_>, rows: &mut Rows, step: usize) -> Result<(), Stop>
     ensures told { Wrote (read deepest stmt cursor.old) (stmt_rows step) (row_lists rows.old) result cursor.new (row_lists rows.new) }
     ensures forward { OnOk result (length cursor.new < length cursor.old) }
-    ensures room { (limit slack : ℕ) → RowsRoom limit (length cursor.old + slack) rows.old → RoomLeft result (RowsRoom limit (length cursor.new + slack) rows.new) (RowsReserved limit rows.new) }
+    ensures room { RowsRoomKept result cursor.old cursor.new rows.old rows.new }
 {
     let place = targets(cursor, rows)?;
     assignment(cursor, rows, place, step)
@@ -204,7 +203,7 @@ fn exit(
 ) -> Result<(), Stop>
     ensures told { Wrote (read deepest integer cursor.old) (one_exit step comma) (row_lists rows.old) result cursor.new (row_lists rows.new) }
     ensures forward { OnOk result (length cursor.new < length cursor.old) }
-    ensures room { (limit slack : ℕ) → RowsRoom limit (length cursor.old + slack) rows.old → RoomLeft result (RowsRoom limit (length cursor.new + slack) rows.new) (RowsReserved limit rows.new) }
+    ensures room { RowsRoomKept result cursor.old cursor.new rows.old rows.new }
 {
     let integer = cursor.take(AnyInteger)?;
     let entered = Listed { comma, integer };
@@ -216,7 +215,7 @@ fn exit(
 fn next_exit(cursor: &mut Cursor<'_>, rows: &mut Rows, step: usize) -> Result<(), Stop>
     ensures told { Wrote (read deepest (mark Comma then integer) cursor.old) (next_exit_rows step) (row_lists rows.old) result cursor.new (row_lists rows.new) }
     ensures forward { OnOk result (length cursor.new < length cursor.old) }
-    ensures room { (limit slack : ℕ) → RowsRoom limit (length cursor.old + slack) rows.old → RoomLeft result (RowsRoom limit (length cursor.new + slack) rows.new) (RowsReserved limit rows.new) }
+    ensures room { RowsRoomKept result cursor.old cursor.new rows.old rows.new }
 {
     let comma = cursor.take(Sign::Comma)?;
     exit(cursor, rows, step, Some(comma))
@@ -226,10 +225,10 @@ fn next_exit(cursor: &mut Cursor<'_>, rows: &mut Rows, step: usize) -> Result<()
 fn exits(cursor: &mut Cursor<'_>, rows: &mut Rows, step: usize) -> Result<(), Stop>
     ensures told { Wrote (read deepest integers cursor.old) (exits_written step) (row_lists rows.old) result cursor.new (row_lists rows.new) }
     ensures forward { OnOk result (length cursor.new < length cursor.old) }
-    ensures room { (limit slack : ℕ) → RowsRoom limit (length cursor.old + slack) rows.old → RoomLeft result (RowsRoom limit (length cursor.new + slack) rows.new) (RowsReserved limit rows.new) }
+    ensures room { RowsRoomKept result cursor.old cursor.new rows.old rows.new }
 {
     exit(cursor, rows, step, None)?;
-    'more: while cursor.at(Sign::Comma) {
+    while cursor.at(Sign::Comma) {
         next_exit(cursor, rows, step)?;
     }
     Ok(())
@@ -239,7 +238,7 @@ fn exits(cursor: &mut Cursor<'_>, rows: &mut Rows, step: usize) -> Result<(), St
 fn condition_exits(cursor: &mut Cursor<'_>, rows: &mut Rows, step: usize) -> Result<Leaving, Stop>
     ensures told { Gave (read deepest condition_branch cursor.old) (condition_branch_rows step) (row_lists rows.old) result cursor.new (row_lists rows.new) }
     ensures forward { OnOk result (length cursor.new < length cursor.old) }
-    ensures room { (limit slack : ℕ) → RowsRoom limit (length cursor.old + slack) rows.old → RoomLeft result (RowsRoom limit (length cursor.new + slack) rows.new) (RowsReserved limit rows.new) }
+    ensures room { RowsRoomKept result cursor.old cursor.new rows.old rows.new }
 {
     let node = condition(cursor, rows)?;
     cursor.take(Sign::RightParen)?;
@@ -254,7 +253,7 @@ fn condition_exits(cursor: &mut Cursor<'_>, rows: &mut Rows, step: usize) -> Res
 fn branch(cursor: &mut Cursor<'_>, rows: &mut Rows, step: usize) -> Result<Leaving, Stop>
     ensures told { Gave (read deepest branch_rule cursor.old) (branch_rows step) (row_lists rows.old) result cursor.new (row_lists rows.new) }
     ensures forward { OnOk result (length cursor.new < length cursor.old) }
-    ensures room { (limit slack : ℕ) → RowsRoom limit (length cursor.old + slack) rows.old → RoomLeft result (RowsRoom limit (length cursor.new + slack) rows.new) (RowsReserved limit rows.new) }
+    ensures room { RowsRoomKept result cursor.old cursor.new rows.old rows.new }
 {
     cursor.take(Sign::Branch)?;
     cursor.take(Sign::LeftParen)?;
@@ -271,9 +270,9 @@ fn branch(cursor: &mut Cursor<'_>, rows: &mut Rows, step: usize) -> Result<Leavi
 fn series(cursor: &mut Cursor<'_>, rows: &mut Rows, step: usize) -> Result<Leaving, Stop>
     ensures told { Gave (read deepest (series_rule stmt Semicolon branch_rule) cursor.old) (series_rows step) (row_lists rows.old) result cursor.new (row_lists rows.new) }
     ensures forward { OnOk result (length cursor.new < length cursor.old) }
-    ensures room { (limit slack : ℕ) → RowsRoom limit (length cursor.old + slack) rows.old → RoomLeft result (RowsRoom limit (length cursor.new + slack) rows.new) (RowsReserved limit rows.new) }
+    ensures room { RowsRoomKept result cursor.old cursor.new rows.old rows.new }
 {
-    'more: while !cursor.at(Sign::Branch) {
+    while !cursor.at(Sign::Branch) {
         statement(cursor, rows, step)?;
         if !cursor.at(Sign::Semicolon) {
             return Ok(Leaving::Next);
@@ -287,7 +286,7 @@ fn series(cursor: &mut Cursor<'_>, rows: &mut Rows, step: usize) -> Result<Leavi
 fn action(cursor: &mut Cursor<'_>, rows: &mut Rows, step: usize) -> Result<Leaving, Stop>
     ensures told { Gave (read deepest action_rule cursor.old) (action_rows step) (row_lists rows.old) result cursor.new (row_lists rows.new) }
     ensures forward { OnOk result (length cursor.new < length cursor.old) }
-    ensures room { (limit slack : ℕ) → RowsRoom limit (length cursor.old + slack) rows.old → RoomLeft result (RowsRoom limit (length cursor.new + slack) rows.new) (RowsReserved limit rows.new) }
+    ensures room { RowsRoomKept result cursor.old cursor.new rows.old rows.new }
 {
     if cursor.at(Keyword::Null) {
         cursor.take(Keyword::Null)?;

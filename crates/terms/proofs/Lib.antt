@@ -3,4 +3,3 @@ pub mod Subscripts
 pub mod Terms
 pub mod Levels
 pub mod Primaries
-mod Room

@@ -6,7 +6,7 @@ ghost use Rattle.grammar.specs.Reading.{read};
 ghost use Rattle.grammar.specs.Promise.{deepest};
 ghost use Rattle.grammar.specs.Drafts.{term_lists, root as root_row, with_node, node_at, primary_rows, prefix_rows, and_rows, xor_rows, or_rows, expr_rows};
 ghost use Rattle.grammar.specs.Room.{TermsRoom, TermsReserved};
-ghost use Rattle.cursor.specs.Told.{Told, Wrote, RoomLeft};
+ghost use Rattle.cursor.specs.Told.{Told, Wrote, RoomLeft, TermsRoomKept};
 ghost use Rattle.cursor.specs.declared.stop.Stop.TheVariants.{TooDeep, OutOfMemory};
 ghost use Rattle.terms.specs.Expressions.{bits_rows, string_rule, string_rows, sized_rule, sized_rows, group_rows, sign_of, form_of};
 
@@ -28,7 +28,7 @@ pub fn expression(
 ) -> Result<(), Stop>
     ensures told { Wrote (read deepest expr_rule cursor.old) (λ t. expr_rows t driven) (term_lists terms.old) result cursor.new (term_lists terms.new) }
     ensures forward { OnOk result (length cursor.new < length cursor.old) }
-    ensures room { (limit slack : ℕ) → TermsRoom limit (length cursor.old + slack) terms.old → RoomLeft result (TermsRoom limit (length cursor.new + slack) terms.new) (TermsReserved limit terms.new) }
+    ensures room { TermsRoomKept result cursor.old cursor.new terms.old terms.new }
 {
     expr(cursor, terms, driven, DEEPEST)
 }
@@ -43,7 +43,7 @@ fn expr(
 ) -> Result<(), Stop>
     ensures told { Wrote (read left expr_rule cursor.old) (λ t. expr_rows t driven) (term_lists terms.old) result cursor.new (term_lists terms.new) }
     ensures forward { OnOk result (length cursor.new < length cursor.old) }
-    ensures room { (limit slack : ℕ) → TermsRoom limit (length cursor.old + slack) terms.old → RoomLeft result (TermsRoom limit (length cursor.new + slack) terms.new) (TermsReserved limit terms.new) }
+    ensures room { TermsRoomKept result cursor.old cursor.new terms.old terms.new }
 {
     or(cursor, terms, driven, left)?;
     while let Ok(place) = cursor.take(Sign::Comma) {
@@ -65,7 +65,7 @@ fn or(
 ) -> Result<(), Stop>
     ensures told { Wrote (read left or_rule cursor.old) (λ t. or_rows t driven) (term_lists terms.old) result cursor.new (term_lists terms.new) }
     ensures forward { OnOk result (length cursor.new < length cursor.old) }
-    ensures room { (limit slack : ℕ) → TermsRoom limit (length cursor.old + slack) terms.old → RoomLeft result (TermsRoom limit (length cursor.new + slack) terms.new) (TermsReserved limit terms.new) }
+    ensures room { TermsRoomKept result cursor.old cursor.new terms.old terms.new }
 {
     xor(cursor, terms, driven, left)?;
     while let Ok(place) = cursor.take(Sign::Or) {
@@ -87,7 +87,7 @@ fn xor(
 ) -> Result<(), Stop>
     ensures told { Wrote (read left xor_rule cursor.old) (λ t. xor_rows t driven) (term_lists terms.old) result cursor.new (term_lists terms.new) }
     ensures forward { OnOk result (length cursor.new < length cursor.old) }
-    ensures room { (limit slack : ℕ) → TermsRoom limit (length cursor.old + slack) terms.old → RoomLeft result (TermsRoom limit (length cursor.new + slack) terms.new) (TermsReserved limit terms.new) }
+    ensures room { TermsRoomKept result cursor.old cursor.new terms.old terms.new }
 {
     and(cursor, terms, driven, left)?;
     while let Ok(place) = cursor.take(Sign::Xor) {
@@ -109,7 +109,7 @@ fn and(
 ) -> Result<(), Stop>
     ensures told { Wrote (read left and_rule cursor.old) (λ t. and_rows t driven) (term_lists terms.old) result cursor.new (term_lists terms.new) }
     ensures forward { OnOk result (length cursor.new < length cursor.old) }
-    ensures room { (limit slack : ℕ) → TermsRoom limit (length cursor.old + slack) terms.old → RoomLeft result (TermsRoom limit (length cursor.new + slack) terms.new) (TermsReserved limit terms.new) }
+    ensures room { TermsRoomKept result cursor.old cursor.new terms.old terms.new }
 {
     prefix(cursor, terms, driven, left)?;
     while let Ok(place) = cursor.take(Sign::And) {
@@ -131,7 +131,7 @@ fn prefix(
 ) -> Result<(), Stop>
     ensures told { Wrote (read left prefix_rule cursor.old) (λ t. prefix_rows t driven) (term_lists terms.old) result cursor.new (term_lists terms.new) }
     ensures forward { OnOk result (length cursor.new < length cursor.old) }
-    ensures room { (limit slack : ℕ) → TermsRoom limit (length cursor.old + slack) terms.old → RoomLeft result (TermsRoom limit (length cursor.new + slack) terms.new) (TermsReserved limit terms.new) }
+    ensures room { TermsRoomKept result cursor.old cursor.new terms.old terms.new }
 {
     if !at_prefix_sign(cursor) {
         return primary(cursor, terms, driven, left);
@@ -153,7 +153,7 @@ fn primary(
 ) -> Result<(), Stop>
     ensures told { Wrote (read left primary_rule cursor.old) (λ t. primary_rows t driven) (term_lists terms.old) result cursor.new (term_lists terms.new) }
     ensures forward { OnOk result (length cursor.new < length cursor.old) }
-    ensures room { (limit slack : ℕ) → TermsRoom limit (length cursor.old + slack) terms.old → RoomLeft result (TermsRoom limit (length cursor.new + slack) terms.new) (TermsReserved limit terms.new) }
+    ensures room { TermsRoomKept result cursor.old cursor.new terms.old terms.new }
 {
     if cursor.at(AnyName) {
         return bits(cursor, terms, driven);
@@ -177,7 +177,7 @@ fn group(
 ) -> Result<(), Stop>
     ensures told { Wrote (read left (part group_part) cursor.old) (λ t. group_rows t driven) (term_lists terms.old) result cursor.new (term_lists terms.new) }
     ensures forward { OnOk result (length cursor.new < length cursor.old) }
-    ensures room { (limit slack : ℕ) → TermsRoom limit (length cursor.old + slack) terms.old → RoomLeft result (TermsRoom limit (length cursor.new + slack) terms.new) (TermsReserved limit terms.new) }
+    ensures room { TermsRoomKept result cursor.old cursor.new terms.old terms.new }
 {
     if !cursor.at(Sign::LeftParen) {
         return Err(Stop::Unexpected);
@@ -251,7 +251,7 @@ fn prefix_sign(cursor: &mut Cursor<'_>) -> Result<PrefixSign, Stop>
 fn bits(cursor: &mut Cursor<'_>, terms: &mut Terms, driven: Option<usize>) -> Result<(), Stop>
     ensures told { (n : ℕ) → Wrote (read n ref cursor.old) (λ r. bits_rows r driven) (term_lists terms.old) result cursor.new (term_lists terms.new) }
     ensures forward { OnOk result (length cursor.new < length cursor.old) }
-    ensures room { (limit slack : ℕ) → TermsRoom limit (length cursor.old + slack) terms.old → RoomLeft result (TermsRoom limit (length cursor.new + slack) terms.new) (TermsReserved limit terms.new) }
+    ensures room { TermsRoomKept result cursor.old cursor.new terms.old terms.new }
 {
     let reference = reference(cursor)?;
     let place = reference.name.place;
@@ -262,7 +262,7 @@ fn bits(cursor: &mut Cursor<'_>, terms: &mut Terms, driven: Option<usize>) -> Re
 fn bit_string(cursor: &mut Cursor<'_>, terms: &mut Terms, driven: Option<usize>) -> Result<(), Stop>
     ensures told { (n : ℕ) → Wrote (read n string_rule cursor.old) (λ s. string_rows s driven) (term_lists terms.old) result cursor.new (term_lists terms.new) }
     ensures forward { OnOk result (length cursor.new < length cursor.old) }
-    ensures room { (limit slack : ℕ) → TermsRoom limit (length cursor.old + slack) terms.old → RoomLeft result (TermsRoom limit (length cursor.new + slack) terms.new) (TermsReserved limit terms.new) }
+    ensures room { TermsRoomKept result cursor.old cursor.new terms.old terms.new }
 {
     let place = cursor.take(Sign::Backslash)?;
     integers(cursor, &mut terms.digits)?;
@@ -275,7 +275,7 @@ fn bit_string(cursor: &mut Cursor<'_>, terms: &mut Terms, driven: Option<usize>)
 fn sized(cursor: &mut Cursor<'_>, terms: &mut Terms, driven: Option<usize>) -> Result<(), Stop>
     ensures told { (n : ℕ) → Wrote (read n sized_rule cursor.old) (λ c. sized_rows c driven) (term_lists terms.old) result cursor.new (term_lists terms.new) }
     ensures forward { OnOk result (length cursor.new < length cursor.old) }
-    ensures room { (limit slack : ℕ) → TermsRoom limit (length cursor.old + slack) terms.old → RoomLeft result (TermsRoom limit (length cursor.new + slack) terms.new) (TermsReserved limit terms.new) }
+    ensures room { TermsRoomKept result cursor.old cursor.new terms.old terms.new }
 {
     let first = cursor.take(AnyInteger)?;
     cursor.take(Sign::Dollar)?;

@@ -1,10 +1,9 @@
 //! Lists of integers.
-ghost use Rattle.std.specs.Prelude.{◌≡◌, ℕ, ◌+◌, ◌<◌, ◌∷◌, ◌++◌, List, [], length, OnOk, vec_items};
+ghost use Rattle.std.specs.Prelude.{◌≡◌, ℕ, ◌<◌, ◌∷◌, ◌++◌, List, [], length, OnOk, vec_items};
 ghost use Rattle.grammar.specs.Rules.{integer as integer_rule, integers as integers_rule};
 ghost use Rattle.grammar.specs.Reading.{read};
 ghost use Rattle.grammar.specs.Drafts.{listed, listed_at};
-ghost use Rattle.grammar.specs.Room.{HasRoom, Reserved};
-ghost use Rattle.cursor.specs.Told.{Wrote, RoomLeft};
+ghost use Rattle.cursor.specs.Told.{Wrote, ListRoomKept};
 
 use cursor::{AnyInteger, Cursor, Stop};
 use grammar::Listed;
@@ -14,7 +13,7 @@ use words::Sign;
 pub fn integers(cursor: &mut Cursor<'_>, list: &mut Vec<Listed>) -> Result<(), Stop>
     ensures told { (n : ℕ) → Wrote (read n integers_rule cursor.old) listed (vec_items list.old) result cursor.new (vec_items list.new) }
     ensures forward { OnOk result (length cursor.new < length cursor.old) }
-    ensures room { (limit slack : ℕ) → HasRoom limit (length cursor.old + slack) list.old → RoomLeft result (HasRoom limit (length cursor.new + slack) list.new) (Reserved limit list.new) }
+    ensures room { ListRoomKept result cursor.old cursor.new list.old list.new }
 {
     listed_integer(cursor, None, list)?;
     while let Ok(comma) = cursor.take(Sign::Comma) {
@@ -32,7 +31,7 @@ fn listed_integer(
 ) -> Result<(), Stop>
     ensures told { (n : ℕ) → Wrote (read n integer_rule cursor.old) (λ i xs. xs ++ listed_at comma i ∷ []) (vec_items list.old) result cursor.new (vec_items list.new) }
     ensures forward { OnOk result (length cursor.new < length cursor.old) }
-    ensures room { (limit slack : ℕ) → HasRoom limit (length cursor.old + slack) list.old → RoomLeft result (HasRoom limit (length cursor.new + slack) list.new) (Reserved limit list.new) }
+    ensures room { ListRoomKept result cursor.old cursor.new list.old list.new }
 {
     let integer = cursor.take(AnyInteger)?;
     list.push(Listed { comma, integer })?;

@@ -2,7 +2,7 @@ use Rattle.std.proofs.Common.{arith}
 use Rattle.grammar.specs.Promise.{deepest}
 use Rattle.grammar.specs.Trees.{both}
 use Rattle.parse.proofs.Turns.{word_then, pair_is}
-use Rattle.statements.proofs.Room.{room_less}
+use Rattle.grammar.proofs.Room.{rows_room_less}
 use Rattle.parse.proofs.body.Goals as goal
 
 pub returns-clause-told : goal.returns-clause-told
@@ -24,4 +24,4 @@ pub returns-clause-room : goal.returns-clause-room
 returns-clause-room c = λ limit slack r.
     let taken = c.in_ok-take-4.ensures.forward in
     c.in_ok-control.ensures.room limit slack
-    (room_less limit _ _ _ (omega (arith, c.in_ok-take.ensures.forward, c.in_ok-take-2.ensures.forward, c.in_ok-take-3.ensures.forward, c.in_ok-clock.ensures.forward, taken)) r)
+    (rows_room_less limit _ _ _ (omega (arith, c.in_ok-take.ensures.forward, c.in_ok-take-2.ensures.forward, c.in_ok-take-3.ensures.forward, c.in_ok-clock.ensures.forward, taken)) r)

@@ -1,8 +1,9 @@
 use Rattle.std.proofs.Common.{arith}
 use Rattle.grammar.specs.Trees.{both}
-use Rattle.parse.proofs.Turns.{turns}
+use Rattle.cursor.proofs.Reading.{reading}
 use Rattle.std.proofs.lemmas.Result.{err_from_is_err_and}
-use Rattle.statements.proofs.Room.{room_less, room_stop}
+use Rattle.grammar.proofs.Room.{rows_room_less}
+use Rattle.cursor.proofs.Room.{room_stop}
 use Rattle.parse.proofs.closing.Goals as goal
 
 pub returns-clause-told : goal.returns-clause-told
@@ -10,7 +11,7 @@ returns-clause-told c =
     let connections = c.in_ok-connections.ensures.told in
     let dot = c.in_ok-take.ensures.told in
     let end = c.in_ok-take-2.ensures.told in
-    let last_dot = c.in_ok-take-3.ensures.told in (both connections.0 (both dot.0 (both end.0 last_dot.0)), simp (turns, connections.1, dot.1, end.1, last_dot.1), connections.2)
+    let last_dot = c.in_ok-take-3.ensures.told in (both connections.0 (both dot.0 (both end.0 last_dot.0)), simp (reading, connections.1, dot.1, end.1, last_dot.1), connections.2)
 
 pub returns-in_err-take-2-clause-room : goal.returns-in_err-take-2-clause-room
 returns-in_err-take-2-clause-room c = λ limit slack r.
@@ -24,4 +25,4 @@ returns-in_err-take-3-clause-room c = λ limit slack r.
 
 pub returns-clause-room : goal.returns-clause-room
 returns-clause-room c = λ limit slack r.
-    room_less limit _ _ _ (omega (arith, c.in_ok-take.ensures.forward, c.in_ok-take-2.ensures.forward, c.in_ok-take-3.ensures.forward)) (c.in_ok-connections.ensures.room limit slack r)
+    rows_room_less limit _ _ _ (omega (arith, c.in_ok-take.ensures.forward, c.in_ok-take-2.ensures.forward, c.in_ok-take-3.ensures.forward)) (c.in_ok-connections.ensures.room limit slack r)

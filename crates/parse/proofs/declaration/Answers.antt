@@ -4,7 +4,7 @@ use Rattle.grammar.specs.Trees.{both}
 use Rattle.grammar.specs.Drafts.{row_lists, item_rows}
 use Rattle.cursor.proofs.Steps.{word_is, then_got}
 use Rattle.parse.proofs.Turns.{word_then}
-use Rattle.statements.proofs.Room.{room_less}
+use Rattle.grammar.proofs.Room.{rows_room_less}
 use Rattle.parse.proofs.declaration.Goals as goal
 
 pub returns-clause-told : goal.returns-clause-told
@@ -20,5 +20,5 @@ returns-clause-told c =
 
 pub returns-clause-room : goal.returns-clause-room
 returns-clause-room c = λ limit slack r.
-    let before = room_less limit _ (length c.take.new.self + slack) _ (omega (arith, c.in_ok-class.ensures.forward, c.in_ok-take.ensures.forward)) r in
-    room_less limit _ _ _ (omega (arith, c.in_ok-take-2.ensures.forward)) (c.in_ok-items.ensures.room limit slack before)
+    let before = rows_room_less limit _ (length c.take.new.self + slack) _ (omega (arith, c.in_ok-class.ensures.forward, c.in_ok-take.ensures.forward)) r in
+    rows_room_less limit _ _ _ (omega (arith, c.in_ok-take-2.ensures.forward)) (c.in_ok-items.ensures.room limit slack before)

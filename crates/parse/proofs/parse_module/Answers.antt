@@ -5,7 +5,7 @@ use Rattle.std.proofs.Common.{◌≡◌, ap, arith}
 use Rattle.grammar.specs.declared.draft.Name.{Name}
 use Rattle.grammar.specs.declared.draft.Heading.{Heading}
 use Rattle.grammar.specs.Drafts.{RowLists}
-use Rattle.statements.proofs.Room.{room_less}
+use Rattle.grammar.proofs.Room.{rows_room_less}
 use Rattle.parse.proofs.parse_module.Goals as goal
 
 headed : {a b c d : Name} → a ≡ c → b ≡ d → ◌≡◌ {A = Heading} (record { title = a; clock = b }) (record { title = c; clock = d })
@@ -27,4 +27,4 @@ returns-clause-told c =
 pub returns-clause-room : goal.returns-clause-room
 returns-clause-room c = λ limit slack r.
     c.in_ok-clock.ensures.room limit slack
-    (room_less limit _ _ _ (omega (arith, c.in_ok-take.ensures.forward, c.in_ok-take-2.ensures.forward, c.in_ok-title.ensures.forward, c.in_ok-take-3.ensures.forward)) r)
+    (rows_room_less limit _ _ _ (omega (arith, c.in_ok-take.ensures.forward, c.in_ok-take-2.ensures.forward, c.in_ok-title.ensures.forward, c.in_ok-take-3.ensures.forward)) r)

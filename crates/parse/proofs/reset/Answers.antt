@@ -1,18 +1,18 @@
 use Rattle.std.proofs.Common.{arith}
 use Rattle.std.proofs.lemmas.Grind.{common_steps}
 use Rattle.grammar.specs.Promise.{deepest}
-use Rattle.parse.proofs.Turns.{turns}
-use Rattle.parse.proofs.Room.{with_resets_room}
+use Rattle.cursor.proofs.Reading.{reading}
+use Rattle.grammar.proofs.Room.{with_resets_room}
 use Rattle.parse.proofs.reset.Goals as goal
 
 pub returns-in_err-integers-clause-told : goal.returns-in_err-integers-clause-told
-returns-in_err-integers-clause-told c = grind (arith, common_steps, turns, c.in_err-integers.ensures.told deepest)
+returns-in_err-integers-clause-told c = grind (arith, common_steps, reading, c.in_err-integers.ensures.told deepest)
 
 pub returns-in_err-take-4-clause-told : goal.returns-in_err-take-4-clause-told
-returns-in_err-take-4-clause-told c = grind (arith, common_steps, turns, c.in_ok-integers.ensures.told deepest)
+returns-in_err-take-4-clause-told c = grind (arith, common_steps, reading, c.in_ok-integers.ensures.told deepest)
 
 pub returns-clause-told : goal.returns-clause-told
-returns-clause-told c = grind (arith, common_steps, turns, c.in_ok-integers.ensures.told deepest)
+returns-clause-told c = grind (arith, common_steps, reading, c.in_ok-integers.ensures.told deepest)
 
 pub returns-clause-room : goal.returns-clause-room
 returns-clause-room c = λ limit slack r.

@@ -5,7 +5,7 @@ use Rattle.grammar.specs.Drafts.{row_lists, branch_rows}
 use Rattle.statements.proofs.Steps.{steps, was_read, join, gave_on, on_sign, on_other}
 use Rattle.statements.specs.Parts.{condition_branch_rows}
 use Rattle.statements.proofs.Parts.{conditions_are}
-use Rattle.statements.proofs.Room.{room_less}
+use Rattle.grammar.proofs.Room.{rows_room_less}
 use Rattle.statements.proofs.branch.Goals as goal
 
 pub returns-in_ok-take-3-clause-told : goal.returns-in_ok-take-3-clause-told
@@ -18,5 +18,5 @@ returns-else-at_list-clause-told c =
 
 pub returns-in_ok-take-3-clause-room : goal.returns-in_ok-take-3-clause-room
 returns-in_ok-take-3-clause-room c = λ limit slack r.
-    let inside = c.in_ok-exits.ensures.room limit slack (room_less limit _ _ _ (omega (arith, c.in_ok-take.ensures.forward, c.in_ok-take-2.ensures.forward)) r) in
-    room_less limit _ _ _ (omega (arith, c.in_ok-take-3.ensures.forward)) inside
+    let inside = c.in_ok-exits.ensures.room limit slack (rows_room_less limit _ _ _ (omega (arith, c.in_ok-take.ensures.forward, c.in_ok-take-2.ensures.forward)) r) in
+    rows_room_less limit _ _ _ (omega (arith, c.in_ok-take-3.ensures.forward)) inside

@@ -1,5 +1,5 @@
 use Rattle.std.proofs.Common.{arith}
-use Rattle.statements.proofs.Room.{with_terms_room}
+use Rattle.grammar.proofs.Room.{with_terms_room}
 use Rattle.statements.proofs.condition.Goals as goal
 
 pub returns-clause-room : goal.returns-clause-room

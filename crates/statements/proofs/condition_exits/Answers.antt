@@ -3,7 +3,8 @@ use Rattle.std.proofs.lemmas.Grind.{common_steps}
 use Rattle.statements.proofs.Steps.{steps, was_read}
 use Rattle.std.proofs.lemmas.Result.{err_from_is_err_and}
 use Rattle.grammar.specs.declared.draft.Leaving.{Leaving}
-use Rattle.statements.proofs.Room.{room_less, room_stop}
+use Rattle.grammar.proofs.Room.{rows_room_less}
+use Rattle.cursor.proofs.Room.{room_stop}
 use Rattle.statements.proofs.condition_exits.Goals as goal
 
 pub returns-clause-told : goal.returns-clause-told
@@ -22,15 +23,15 @@ returns-in_err-take-2-clause-room c = λ limit slack r.
 pub returns-in_err-exits-clause-room : goal.returns-in_err-exits-clause-room
 returns-in_err-exits-clause-room c = λ limit slack r.
     let p = err_from_is_err_and c.from_residual-in_err-exits.result c.from_residual-in_err-exits.ensures.1 in
-    rw (p.1, p.2) (c.in_err-exits.ensures.room limit slack (room_less limit _ _ _ (omega (arith, c.in_ok-take.ensures.forward, c.in_ok-place.ensures.forward, c.in_ok-take-2.ensures.forward)) (c.in_ok-node.ensures.room limit slack r)))
+    rw (p.1, p.2) (c.in_err-exits.ensures.room limit slack (rows_room_less limit _ _ _ (omega (arith, c.in_ok-take.ensures.forward, c.in_ok-place.ensures.forward, c.in_ok-take-2.ensures.forward)) (c.in_ok-node.ensures.room limit slack r)))
 
 pub returns-in_err-take-3-clause-room : goal.returns-in_err-take-3-clause-room
 returns-in_err-take-3-clause-room c = λ limit slack r.
     let p = err_from_is_err_and c.from_residual-in_err-take-3.result c.from_residual-in_err-take-3.ensures.1 in
-    let inside = c.in_ok-exits.ensures.room limit slack (room_less limit _ _ _ (omega (arith, c.in_ok-take.ensures.forward, c.in_ok-place.ensures.forward, c.in_ok-take-2.ensures.forward)) (c.in_ok-node.ensures.room limit slack r)) in
+    let inside = c.in_ok-exits.ensures.room limit slack (rows_room_less limit _ _ _ (omega (arith, c.in_ok-take.ensures.forward, c.in_ok-place.ensures.forward, c.in_ok-take-2.ensures.forward)) (c.in_ok-node.ensures.room limit slack r)) in
     rw (p.1, p.2) (room_stop Leaving limit _ _ _ _ c.in_err-take-3.ensures.stops inside)
 
 pub returns-clause-room : goal.returns-clause-room
 returns-clause-room c = λ limit slack r.
-    let inside = c.in_ok-exits.ensures.room limit slack (room_less limit _ _ _ (omega (arith, c.in_ok-take.ensures.forward, c.in_ok-place.ensures.forward, c.in_ok-take-2.ensures.forward)) (c.in_ok-node.ensures.room limit slack r)) in
-    room_less limit _ _ _ (omega (arith, c.in_ok-take-3.ensures.forward)) inside
+    let inside = c.in_ok-exits.ensures.room limit slack (rows_room_less limit _ _ _ (omega (arith, c.in_ok-take.ensures.forward, c.in_ok-place.ensures.forward, c.in_ok-take-2.ensures.forward)) (c.in_ok-node.ensures.room limit slack r)) in
+    rows_room_less limit _ _ _ (omega (arith, c.in_ok-take-3.ensures.forward)) inside

@@ -4,7 +4,7 @@ use Rattle.grammar.specs.Drafts.{row_lists}
 use Rattle.grammar.specs.declared.draft.StatementKind.TheVariants.{Transfer}
 use Rattle.statements.proofs.Steps.{join, wrote_on, on_part, on_sign}
 use Rattle.statements.specs.Parts.{assigned_rows, conditional_rows}
-use Rattle.statements.proofs.Room.{room_less}
+use Rattle.grammar.proofs.Room.{rows_room_less}
 use Rattle.statements.proofs.conditional.Goals as goal
 
 pub returns-clause-told : goal.returns-clause-told
@@ -14,5 +14,5 @@ returns-clause-told c =
 
 pub returns-clause-room : goal.returns-clause-room
 returns-clause-room c = λ limit slack r.
-    let inside = c.in_ok-node.ensures.room limit slack (room_less limit _ _ _ (omega (arith, c.in_ok-star.ensures.forward, c.in_ok-take.ensures.forward)) r) in
-    c.assigned.ensures.room limit slack (room_less limit _ _ _ (omega (arith, c.in_ok-take-2.ensures.forward)) inside)
+    let inside = c.in_ok-node.ensures.room limit slack (rows_room_less limit _ _ _ (omega (arith, c.in_ok-star.ensures.forward, c.in_ok-take.ensures.forward)) r) in
+    c.assigned.ensures.room limit slack (rows_room_less limit _ _ _ (omega (arith, c.in_ok-take-2.ensures.forward)) inside)

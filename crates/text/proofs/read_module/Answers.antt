@@ -2,7 +2,9 @@ use Rattle.std.proofs.Common.{◌≢◌, ◌-◌, length, ap, sym, subst, arith}
 use Rattle.grammar.specs.declared.draft.Heading.{Heading}
 use Rattle.text.specs.declared.faults.ReadFault.{ReadFault}
 use Rattle.text.specs.declared.faults.ReadFault.TheVariants.{OutOfMemory}
-use Rattle.text.proofs.Room.{enough, still_reserved, stop_reserved, stop_no_want}
+use Rattle.grammar.proofs.Room.{rows_reserved}
+use Rattle.cursor.proofs.Room.{stop_reserved}
+use Rattle.text.proofs.Room.{enough, stop_no_want}
 use Rattle.text.proofs.read_module.Goals as goal
 
 pub returns-in-Err-clause-memory : goal.returns-in-Err-clause-memory
@@ -20,9 +22,9 @@ returns-in-Err-clause-room c = λ limit few reserved.
 pub returns-in-empty-clause-memory : goal.returns-in-empty-clause-memory
 returns-in-empty-clause-memory c = λ limit few reserved.
     let words = length c.new-cursor.result in
-    still_reserved limit _ _ (c.in-Ok.ensures.room limit (limit - words) (enough limit words _ (omega (arith, few, ap length c.new-cursor.ensures)) (c.clear.ensures.memory limit reserved)))
+    rows_reserved limit _ _ (c.in-Ok.ensures.room limit (limit - words) (enough limit words _ (omega (arith, few, ap length c.new-cursor.ensures)) (c.clear.ensures.memory limit reserved)))
 
 pub returns-in_default-clause-memory : goal.returns-in_default-clause-memory
 returns-in_default-clause-memory c = λ limit few reserved.
     let words = length c.new-cursor.result in
-    still_reserved limit _ _ (c.in-Ok.ensures.room limit (limit - words) (enough limit words _ (omega (arith, few, ap length c.new-cursor.ensures)) (c.clear.ensures.memory limit reserved)))
+    rows_reserved limit _ _ (c.in-Ok.ensures.room limit (limit - words) (enough limit words _ (omega (arith, few, ap length c.new-cursor.ensures)) (c.clear.ensures.memory limit reserved)))

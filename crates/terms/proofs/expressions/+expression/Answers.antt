@@ -7,7 +7,7 @@ use Rattle.grammar.specs.Reading.{read}
 use Rattle.grammar.specs.Drafts.{term_lists, prefix_rows}
 use Rattle.cursor.proofs.Steps.{then_got, then_stop, then_stop_second, left_got, left_stop, part_wrong}
 use Rattle.cursor.proofs.MoreSteps.{word_got, word_stop, wrote_last, wrote_right, nested_got, nested_stop, nested_deep}
-use Rattle.terms.proofs.Room.{room_less}
+use Rattle.grammar.proofs.Room.{terms_room_less}
 use Rattle.terms.proofs.Terms.{under_is}
 use Rattle.terms.proofs.Levels.{commas, ors, xors, ands, along_start, along_turn, along_stop, along_end}
 use Rattle.terms.proofs.Primaries.{wrote_bits, wrote_string, wrote_sized, wrote_group}
@@ -35,8 +35,8 @@ expr-loop-place-preserved t c =
       goes = along_turn commas c.args.left c.args.driven _ _ (term_lists c.or.new.terms) (term_lists c.loop-place.terms) c.loop-place.invariant.goes _ _ m.told _ (term_lists c.or-in-Ok.new.terms) a.told a.forward _ _ c.root-first.ensures c.root-second.ensures (term_lists c.push.new.terms) c.in_ok-push.ensures.pushed;
       behind = omega (arith, m.forward, a.forward, c.loop-place.invariant.behind);
       room = λ limit slack r.
-          let spare = room_less limit _ (length c.take.new.self + (slack + 1)) _ (omega (arith, m.forward)) (c.loop-place.invariant.room limit slack r) in
-          c.in_ok-push.ensures.room limit _ (room_less limit _ _ _ (omega arith) (a.room limit (slack + 1) spare));
+          let spare = terms_room_less limit _ (length c.take.new.self + (slack + 1)) _ (omega (arith, m.forward)) (c.loop-place.invariant.room limit slack r) in
+          c.in_ok-push.ensures.room limit _ (terms_room_less limit _ _ _ (omega arith) (a.room limit (slack + 1) spare));
     }
 
 pub expr-returns-clause-told : goal.expr-returns-clause-told
@@ -66,8 +66,8 @@ or-loop-place-preserved t c =
       goes = along_turn ors c.args.left c.args.driven _ _ (term_lists c.xor.new.terms) (term_lists c.loop-place.terms) c.loop-place.invariant.goes _ _ m.told _ (term_lists c.xor-in-Ok.new.terms) a.told a.forward _ _ c.root-first.ensures c.root-second.ensures (term_lists c.push.new.terms) c.in_ok-push.ensures.pushed;
       behind = omega (arith, m.forward, a.forward, c.loop-place.invariant.behind);
       room = λ limit slack r.
-          let spare = room_less limit _ (length c.take.new.self + (slack + 1)) _ (omega (arith, m.forward)) (c.loop-place.invariant.room limit slack r) in
-          c.in_ok-push.ensures.room limit _ (room_less limit _ _ _ (omega arith) (a.room limit (slack + 1) spare));
+          let spare = terms_room_less limit _ (length c.take.new.self + (slack + 1)) _ (omega (arith, m.forward)) (c.loop-place.invariant.room limit slack r) in
+          c.in_ok-push.ensures.room limit _ (terms_room_less limit _ _ _ (omega arith) (a.room limit (slack + 1) spare));
     }
 
 pub or-returns-clause-told : goal.or-returns-clause-told
@@ -97,8 +97,8 @@ xor-loop-place-preserved t c =
       goes = along_turn xors c.args.left c.args.driven _ _ (term_lists c.and.new.terms) (term_lists c.loop-place.terms) c.loop-place.invariant.goes _ _ m.told _ (term_lists c.and-in-Ok.new.terms) a.told a.forward _ _ c.root-first.ensures c.root-second.ensures (term_lists c.push.new.terms) c.in_ok-push.ensures.pushed;
       behind = omega (arith, m.forward, a.forward, c.loop-place.invariant.behind);
       room = λ limit slack r.
-          let spare = room_less limit _ (length c.take.new.self + (slack + 1)) _ (omega (arith, m.forward)) (c.loop-place.invariant.room limit slack r) in
-          c.in_ok-push.ensures.room limit _ (room_less limit _ _ _ (omega arith) (a.room limit (slack + 1) spare));
+          let spare = terms_room_less limit _ (length c.take.new.self + (slack + 1)) _ (omega (arith, m.forward)) (c.loop-place.invariant.room limit slack r) in
+          c.in_ok-push.ensures.room limit _ (terms_room_less limit _ _ _ (omega arith) (a.room limit (slack + 1) spare));
     }
 
 pub xor-returns-clause-told : goal.xor-returns-clause-told
@@ -128,8 +128,8 @@ and-loop-place-preserved t c =
       goes = along_turn ands c.args.left c.args.driven _ _ (term_lists c.prefix.new.terms) (term_lists c.loop-place.terms) c.loop-place.invariant.goes _ _ m.told _ (term_lists c.prefix-in-Ok.new.terms) a.told a.forward _ _ c.root-first.ensures c.root-second.ensures (term_lists c.push.new.terms) c.in_ok-push.ensures.pushed;
       behind = omega (arith, m.forward, a.forward, c.loop-place.invariant.behind);
       room = λ limit slack r.
-          let spare = room_less limit _ (length c.take.new.self + (slack + 1)) _ (omega (arith, m.forward)) (c.loop-place.invariant.room limit slack r) in
-          c.in_ok-push.ensures.room limit _ (room_less limit _ _ _ (omega arith) (a.room limit (slack + 1) spare));
+          let spare = terms_room_less limit _ (length c.take.new.self + (slack + 1)) _ (omega (arith, m.forward)) (c.loop-place.invariant.room limit slack r) in
+          c.in_ok-push.ensures.room limit _ (terms_room_less limit _ _ _ (omega arith) (a.room limit (slack + 1) spare));
     }
 
 pub and-returns-clause-told : goal.and-returns-clause-told
@@ -231,80 +231,80 @@ pub expr-returns-in_err-or-2-clause-room : goal.expr-returns-in_err-or-2-clause-
 expr-returns-in_err-or-2-clause-room t c = λ limit slack r.
     let p = err_from_is_err_and c.from_residual-in_err-or-2.result c.from_residual-in_err-or-2.ensures.1 in
     let now = c.loop-place.invariant.room limit slack (c.in_ok-or.ensures.room limit slack r) in
-    rw (p.1, p.2) (c.in_err-or-2.ensures.room limit slack (room_less limit _ _ _ (omega (arith, c.in-Ok.ensures.forward)) now))
+    rw (p.1, p.2) (c.in_err-or-2.ensures.room limit slack (terms_room_less limit _ _ _ (omega (arith, c.in-Ok.ensures.forward)) now))
 
 pub expr-returns-in_err-push-clause-room : goal.expr-returns-in_err-push-clause-room
 expr-returns-in_err-push-clause-room t c = λ limit slack r.
     let p = err_from_is_err_and c.from_residual-in_err-push.result c.from_residual-in_err-push.ensures.1 in
     let now = c.loop-place.invariant.room limit slack (c.in_ok-or.ensures.room limit slack r) in
-    let spare = room_less limit _ (length c.take.new.self + (slack + 1)) _ (omega (arith, c.in-Ok.ensures.forward)) now in
-    rw (p.1, p.2) (c.in_err-push.ensures.room limit _ (room_less limit _ _ _ (omega arith) (c.in_ok-or-2.ensures.room limit (slack + 1) spare)))
+    let spare = terms_room_less limit _ (length c.take.new.self + (slack + 1)) _ (omega (arith, c.in-Ok.ensures.forward)) now in
+    rw (p.1, p.2) (c.in_err-push.ensures.room limit _ (terms_room_less limit _ _ _ (omega arith) (c.in_ok-or-2.ensures.room limit (slack + 1) spare)))
 
 pub expr-returns-clause-room : goal.expr-returns-clause-room
 expr-returns-clause-room t c = λ limit slack r.
     let stays = c.in_default.ensures.stays in
-    room_less limit _ _ _ (omega (arith, ap length stays)) (c.loop-place.invariant.room limit slack (c.in_ok-or.ensures.room limit slack r))
+    terms_room_less limit _ _ _ (omega (arith, ap length stays)) (c.loop-place.invariant.room limit slack (c.in_ok-or.ensures.room limit slack r))
 
 pub or-returns-in_err-xor-2-clause-room : goal.or-returns-in_err-xor-2-clause-room
 or-returns-in_err-xor-2-clause-room t c = λ limit slack r.
     let p = err_from_is_err_and c.from_residual-in_err-xor-2.result c.from_residual-in_err-xor-2.ensures.1 in
     let now = c.loop-place.invariant.room limit slack (c.in_ok-xor.ensures.room limit slack r) in
-    rw (p.1, p.2) (c.in_err-xor-2.ensures.room limit slack (room_less limit _ _ _ (omega (arith, c.in-Ok.ensures.forward)) now))
+    rw (p.1, p.2) (c.in_err-xor-2.ensures.room limit slack (terms_room_less limit _ _ _ (omega (arith, c.in-Ok.ensures.forward)) now))
 
 pub or-returns-in_err-push-clause-room : goal.or-returns-in_err-push-clause-room
 or-returns-in_err-push-clause-room t c = λ limit slack r.
     let p = err_from_is_err_and c.from_residual-in_err-push.result c.from_residual-in_err-push.ensures.1 in
     let now = c.loop-place.invariant.room limit slack (c.in_ok-xor.ensures.room limit slack r) in
-    let spare = room_less limit _ (length c.take.new.self + (slack + 1)) _ (omega (arith, c.in-Ok.ensures.forward)) now in
-    rw (p.1, p.2) (c.in_err-push.ensures.room limit _ (room_less limit _ _ _ (omega arith) (c.in_ok-xor-2.ensures.room limit (slack + 1) spare)))
+    let spare = terms_room_less limit _ (length c.take.new.self + (slack + 1)) _ (omega (arith, c.in-Ok.ensures.forward)) now in
+    rw (p.1, p.2) (c.in_err-push.ensures.room limit _ (terms_room_less limit _ _ _ (omega arith) (c.in_ok-xor-2.ensures.room limit (slack + 1) spare)))
 
 pub or-returns-clause-room : goal.or-returns-clause-room
 or-returns-clause-room t c = λ limit slack r.
     let stays = c.in_default.ensures.stays in
-    room_less limit _ _ _ (omega (arith, ap length stays)) (c.loop-place.invariant.room limit slack (c.in_ok-xor.ensures.room limit slack r))
+    terms_room_less limit _ _ _ (omega (arith, ap length stays)) (c.loop-place.invariant.room limit slack (c.in_ok-xor.ensures.room limit slack r))
 
 pub xor-returns-in_err-and-2-clause-room : goal.xor-returns-in_err-and-2-clause-room
 xor-returns-in_err-and-2-clause-room t c = λ limit slack r.
     let p = err_from_is_err_and c.from_residual-in_err-and-2.result c.from_residual-in_err-and-2.ensures.1 in
     let now = c.loop-place.invariant.room limit slack (c.in_ok-and.ensures.room limit slack r) in
-    rw (p.1, p.2) (c.in_err-and-2.ensures.room limit slack (room_less limit _ _ _ (omega (arith, c.in-Ok.ensures.forward)) now))
+    rw (p.1, p.2) (c.in_err-and-2.ensures.room limit slack (terms_room_less limit _ _ _ (omega (arith, c.in-Ok.ensures.forward)) now))
 
 pub xor-returns-in_err-push-clause-room : goal.xor-returns-in_err-push-clause-room
 xor-returns-in_err-push-clause-room t c = λ limit slack r.
     let p = err_from_is_err_and c.from_residual-in_err-push.result c.from_residual-in_err-push.ensures.1 in
     let now = c.loop-place.invariant.room limit slack (c.in_ok-and.ensures.room limit slack r) in
-    let spare = room_less limit _ (length c.take.new.self + (slack + 1)) _ (omega (arith, c.in-Ok.ensures.forward)) now in
-    rw (p.1, p.2) (c.in_err-push.ensures.room limit _ (room_less limit _ _ _ (omega arith) (c.in_ok-and-2.ensures.room limit (slack + 1) spare)))
+    let spare = terms_room_less limit _ (length c.take.new.self + (slack + 1)) _ (omega (arith, c.in-Ok.ensures.forward)) now in
+    rw (p.1, p.2) (c.in_err-push.ensures.room limit _ (terms_room_less limit _ _ _ (omega arith) (c.in_ok-and-2.ensures.room limit (slack + 1) spare)))
 
 pub xor-returns-clause-room : goal.xor-returns-clause-room
 xor-returns-clause-room t c = λ limit slack r.
     let stays = c.in_default.ensures.stays in
-    room_less limit _ _ _ (omega (arith, ap length stays)) (c.loop-place.invariant.room limit slack (c.in_ok-and.ensures.room limit slack r))
+    terms_room_less limit _ _ _ (omega (arith, ap length stays)) (c.loop-place.invariant.room limit slack (c.in_ok-and.ensures.room limit slack r))
 
 pub and-returns-in_err-prefix-2-clause-room : goal.and-returns-in_err-prefix-2-clause-room
 and-returns-in_err-prefix-2-clause-room t c = λ limit slack r.
     let p = err_from_is_err_and c.from_residual-in_err-prefix-2.result c.from_residual-in_err-prefix-2.ensures.1 in
     let now = c.loop-place.invariant.room limit slack (c.in_ok-prefix.ensures.room limit slack r) in
-    rw (p.1, p.2) (c.in_err-prefix-2.ensures.room limit slack (room_less limit _ _ _ (omega (arith, c.in-Ok.ensures.forward)) now))
+    rw (p.1, p.2) (c.in_err-prefix-2.ensures.room limit slack (terms_room_less limit _ _ _ (omega (arith, c.in-Ok.ensures.forward)) now))
 
 pub and-returns-in_err-push-clause-room : goal.and-returns-in_err-push-clause-room
 and-returns-in_err-push-clause-room t c = λ limit slack r.
     let p = err_from_is_err_and c.from_residual-in_err-push.result c.from_residual-in_err-push.ensures.1 in
     let now = c.loop-place.invariant.room limit slack (c.in_ok-prefix.ensures.room limit slack r) in
-    let spare = room_less limit _ (length c.take.new.self + (slack + 1)) _ (omega (arith, c.in-Ok.ensures.forward)) now in
-    rw (p.1, p.2) (c.in_err-push.ensures.room limit _ (room_less limit _ _ _ (omega arith) (c.in_ok-prefix-2.ensures.room limit (slack + 1) spare)))
+    let spare = terms_room_less limit _ (length c.take.new.self + (slack + 1)) _ (omega (arith, c.in-Ok.ensures.forward)) now in
+    rw (p.1, p.2) (c.in_err-push.ensures.room limit _ (terms_room_less limit _ _ _ (omega arith) (c.in_ok-prefix-2.ensures.room limit (slack + 1) spare)))
 
 pub and-returns-clause-room : goal.and-returns-clause-room
 and-returns-clause-room t c = λ limit slack r.
     let stays = c.in_default.ensures.stays in
-    room_less limit _ _ _ (omega (arith, ap length stays)) (c.loop-place.invariant.room limit slack (c.in_ok-prefix.ensures.room limit slack r))
+    terms_room_less limit _ _ _ (omega (arith, ap length stays)) (c.loop-place.invariant.room limit slack (c.in_ok-prefix.ensures.room limit slack r))
 
 pub group-returns-clause-room : goal.group-returns-clause-room
 group-returns-clause-room t c = λ limit slack r.
-    let inside = c.in_ok-expr.ensures.room limit slack (room_less limit _ _ _ (omega (arith, c.in_ok-take.ensures.forward)) r) in
-    room_less limit _ _ _ (omega (arith, c.in_ok-take-2.ensures.forward)) inside
+    let inside = c.in_ok-expr.ensures.room limit slack (terms_room_less limit _ _ _ (omega (arith, c.in_ok-take.ensures.forward)) r) in
+    terms_room_less limit _ _ _ (omega (arith, c.in_ok-take-2.ensures.forward)) inside
 
 pub prefix-returns-clause-room : goal.prefix-returns-clause-room
 prefix-returns-clause-room t c = λ limit slack r.
-    let spare = room_less limit _ (length c.prefix_sign.new.cursor + (slack + 1)) _ (omega (arith, c.in_ok-sign.ensures.forward)) r in
-    c.push.ensures.room limit _ (room_less limit _ _ _ (omega arith) (c.in_ok-prefix.ensures.room limit (slack + 1) spare))
+    let spare = terms_room_less limit _ (length c.prefix_sign.new.cursor + (slack + 1)) _ (omega (arith, c.in_ok-sign.ensures.forward)) r in
+    c.push.ensures.room limit _ (terms_room_less limit _ _ _ (omega arith) (c.in_ok-prefix.ensures.room limit (slack + 1) spare))
