@@ -1,6 +1,6 @@
 -- Tests of a rule that are computed: that its next word (at a fork its next two) tells how to read on. Assumes nothing.
-use Rattle.std.proofs.Common.{◌≡◌, ℕ, ◌<◌, Bool, true, false, not, ◌&&◌, ◌||◌, eqb, List, [], ◌∷◌, get_or, refl, rules, arith}
-use Rattle.std.proofs.lemmas.Bool.{agree_below, agree_below_at, and_parts, not-true, ne_eqb}
+use Rattle.std.proofs.Common.{◌≡◌, ℕ, ◌<◌, Bool, true, false, not, ◌&&◌, ◌||◌, eqb, List, [], ◌∷◌, get_or, sym, refl, subst, rules, arith}
+use Rattle.std.proofs.lemmas.Bool.{agree_below, agree_below_at, and_parts, not-true, eqb-true, ne_eqb}
 use Rattle.words.specs.Codes.{sign_code, keyword_code}
 use Rattle.words.specs.declared.token.Sign.{Sign}
 use Rattle.words.specs.declared.token.Sign.TheVariants.{Dot, Colon, Semicolon, Comma, LeftParen, RightParen, LeftBracket, RightBracket, Slash, Backslash, Dollar, And, Or, Xor, Not, Star, Equal, Transfer, Branch, AndReduce, OrReduce, XorReduce}
@@ -10,6 +10,7 @@ use Rattle.words.specs.declared.token.Kind.{Kind}
 use Rattle.words.specs.declared.token.Kind.TheVariants.{Reserved, Mark}
 use Rattle.words.specs.declared.token.Token.{Token}
 use Rattle.grammar.specs.Rules.{Part, group, signed, Rule, ◌then◌, maybe, many, either, fork, series, part, inside, unit}
+use Rattle.grammar.specs.Promise.{IsOpening}
 use Rattle.grammar.specs.Reading.{IsWord}
 use Rattle.grammar.specs.Sorts.{integer_sort, keyword_sort, sign_sort, end_sort, kind_sort, sort, nullable, starts, opens}
 
@@ -179,6 +180,11 @@ ok_inside p = grind (arith, ok_sound)
 
 pub inside_opens : (p : Part) → Implies (starts (inside p)) (opens p)
 inside_opens p = grind (arith, each)
+
+-- a nesting part begins with a sign that opens a nesting
+pub opens_by : (p : Part) (k : Kind) → opens p (kind_sort k) ≡ true → IsOpening k
+opens_by group k e = subst IsOpening (sym (is_mark LeftParen k (eqb-true _ _ e))) tt
+opens_by signed k e = grind (arith, eqb-true, is_mark Not k, is_mark AndReduce k, is_mark OrReduce k, is_mark XorReduce k)
 
 pub inside_begins : (p : Part) → Implies (opens p) (begins (inside p))
 inside_begins p = grind (arith, each)

@@ -5,7 +5,7 @@ use Rattle.grammar.specs.Rules.{unit}
 use Rattle.grammar.specs.Sorts.{sort}
 use Rattle.grammar.specs.Trees.{Tree, words, depth}
 use Rattle.grammar.specs.Reading.{Out, got, wrong, deep, read}
-use Rattle.grammar.specs.Promise.{deepest, Begins, Continues, ContinuesWithin}
+use Rattle.grammar.specs.Promise.{deepest, Begins, Continues, ContinuesWithin, OpensNesting}
 use Rattle.grammar.specs.Laws.{Whole, Unambiguous, GrammarLaws}
 use Rattle.grammar.proofs.Checks.{ok_unit}
 use Rattle.grammar.proofs.Shapes.{sample}
@@ -31,7 +31,11 @@ continued_within us (w ∷ rest) (vs, (t, d, e)) = (t, d, hit t us (w ∷ vs) (w
 
 goes_on : (us rest : List Token) → Goes true unit us rest → Continues us rest
 goes_on us [] g = absurd g
-goes_on us (w ∷ rest) (t, vs, e) = (depth t, (vs, (t, omega arith, e)))
+goes_on us (w ∷ rest) (o, t, vs, e) = (depth t, (vs, (t, omega arith, e)))
+
+opened : (us rest : List Token) → Goes true unit us rest → OpensNesting rest
+opened us [] g = absurd g
+opened us (w ∷ rest) g = g.0
 
 -- a module is read and a word is left: no module goes on with it
 stops_behind : (ws rest : List Token) (t : Tree unit) (w : Token) → Done deepest unit ws t (w ∷ rest) → Continues (words t) (w ∷ rest) → ⊥
@@ -41,7 +45,7 @@ whole_of : (ws : List Token) (o : Out (Tree unit)) → Reads deepest unit ws o �
 whole_of ws (got t []) x = (sym (x.whole ∙ append-nil (words t)), x.within)
 whole_of ws (got t (w ∷ rest)) x = record { before = words t; whole = x.whole; right = ([], (t, x.within, sym (append-nil (words t)))); stops = stops_behind ws rest t w x }
 whole_of ws (wrong rest) x = record { before = x.before; whole = x.whole; right = begun x.before x.right; stops = λ y. let (t, h) = continued x.before rest y in x.stops t tt h }
-whole_of ws (deep rest) x = record { before = x.before; whole = x.whole; right = begun x.before x.right; stops = λ y. let (t, d, h) = continued_within x.before rest y in x.stops t d h; goes = goes_on x.before rest x.goes }
+whole_of ws (deep rest) x = record { before = x.before; whole = x.whole; right = begun x.before x.right; opens = opened x.before rest x.goes; stops = λ y. let (t, d, h) = continued_within x.before rest y in x.stops t d h; goes = goes_on x.before rest x.goes }
 
 pub reads_whole : (ws : List Token) → Whole ws (read deepest unit ws)
 reads_whole ws = whole_of ws (read deepest unit ws) (reads deepest unit ok_unit ws)

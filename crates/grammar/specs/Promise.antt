@@ -1,5 +1,8 @@
 -- What is promised of the words of a text: whether they are a module's, and which word is the first wrong one. Assumes nothing.
 use Rattle.std.specs.Prelude.{◌≡◌, ℕ, ◌≤◌, List, [], ◌∷◌, ◌++◌}
+use Rattle.words.specs.declared.token.Sign.TheVariants.{LeftParen, Not, AndReduce, OrReduce, XorReduce}
+use Rattle.words.specs.declared.token.Kind.{Kind}
+use Rattle.words.specs.declared.token.Kind.TheVariants.{Mark}
 use Rattle.words.specs.declared.token.Token.{Token}
 use Rattle.grammar.specs.Rules.{unit}
 use Rattle.grammar.specs.Trees.{Tree, words, depth}
@@ -38,11 +41,27 @@ pub record FirstWrong (ws rest : List Token) : Type 0 where
   pub right : Begins deepest before
   pub stops : Continues before rest → ⊥
 
--- The sign that opens the seventeenth nesting, `rest` being it and what follows: some module that nests at most 16 deep
--- begins with the words before it; modules that begin with the words up to and including it all nest deeper.
+-- a sign with which a nesting opens: ( or a prefix sign, ^ &/ +/ @/
+abbrev pub IsOpening : Kind → Type 0
+IsOpening (Mark LeftParen) = Unit {0}
+IsOpening (Mark Not) = Unit {0}
+IsOpening (Mark AndReduce) = Unit {0}
+IsOpening (Mark OrReduce) = Unit {0}
+IsOpening (Mark XorReduce) = Unit {0}
+IsOpening _ = ⊥
+
+-- the first word is such a sign; at the end of the text there is none
+abbrev pub OpensNesting : List Token → Type 0
+OpensNesting [] = ⊥
+OpensNesting (w ∷ ws) = IsOpening w.kind
+
+-- The sign that opens the seventeenth nesting, `rest` being it and what follows: it is ( or a prefix sign; some module
+-- that nests at most 16 deep begins with the words before it; modules that begin with the words up to and including it
+-- all nest deeper, and there are some.
 pub record FirstDeep (ws rest : List Token) : Type 0 where
   pub before : List Token
   pub whole : ws ≡ before ++ rest
   pub right : Begins deepest before
+  pub opens : OpensNesting rest
   pub stops : ContinuesWithin before rest → ⊥
   pub goes : Continues before rest
