@@ -1,6 +1,6 @@
 -- Tests of a rule that are computed: that its next word (at a fork its next two) tells how to read on. Assumes nothing.
-use Rattle.std.proofs.Common.{◌≡◌, ℕ, ◌<◌, Bool, true, false, not, ◌&&◌, ◌||◌, eqb, List, [], ◌∷◌, get_or, refl, rules, arith}
-use Rattle.std.proofs.lemmas.Bool.{agree_below, agree_below_at, and_parts, not-true, ne_eqb}
+use Rattle.std.proofs.Common.{◌≡◌, ℕ, ◌<◌, Bool, true, false, not, ◌&&◌, ◌||◌, eqb, List, [], ◌∷◌, get_or, sym, subst, rules, arith}
+use Rattle.std.proofs.lemmas.Bool.{agree_below, agree_below_at, and_parts, not-true, eqb-true, ne_eqb}
 use Rattle.words.specs.Codes.{sign_code, keyword_code}
 use Rattle.words.specs.declared.token.Sign.{Sign}
 use Rattle.words.specs.declared.token.Sign.TheVariants.{Dot, Colon, Semicolon, Comma, LeftParen, RightParen, LeftBracket, RightBracket, Slash, Backslash, Dollar, And, Or, Xor, Not, Star, Equal, Transfer, Branch, AndReduce, OrReduce, XorReduce}
@@ -9,7 +9,8 @@ use Rattle.words.specs.declared.token.Keyword.TheVariants.{Module, Inputs, Outpu
 use Rattle.words.specs.declared.token.Kind.{Kind}
 use Rattle.words.specs.declared.token.Kind.TheVariants.{Reserved, Mark}
 use Rattle.words.specs.declared.token.Token.{Token}
-use Rattle.grammar.specs.Rules.{Part, group, signed, Rule, ◌then◌, maybe, many, either, fork, series, part, inside, unit}
+use Rattle.grammar.specs.Rules.{Part, group, signed, Rule, ◌then◌, maybe, many, either, fork, series, part, inside}
+use Rattle.grammar.specs.Promise.{IsOpening}
 use Rattle.grammar.specs.Reading.{IsWord}
 use Rattle.grammar.specs.Sorts.{integer_sort, keyword_sort, sign_sort, end_sort, kind_sort, sort, nullable, starts, opens}
 
@@ -159,7 +160,8 @@ infixr 20 ◌also◌
 ◌also◌ : {A B : Type 0} {x y : Bool} → (x ≡ true → A) → (y ≡ true → B) → (x && y) ≡ true → A × B
 ◌also◌ {x = x} {y = y} f g e = let h = and_parts x y e in (f h.0, g h.1)
 
-ok_sound : (r : Rule) → ok r ≡ true → Ok r
+-- a rule that passes the tests, which are computed
+pub ok_sound : (r : Rule) → ok r ≡ true → Ok r
 ok_sound (a then b) e = (ok_sound a also ok_sound b also apart (continues a) (starts b) also (λ x. x)) e
 ok_sound (maybe a) e = (ok_sound a also not-true _) e
 ok_sound (many a) e = (ok_sound a also not-true _ also not-true _ also apart (continues a) (starts a)) e
@@ -170,15 +172,16 @@ ok_sound (fork a b) e =
 ok_sound (series a s b) e = (ok_sound a also ok_sound b also not-true _ also not-true _ also apart (starts a) (starts b) also not-true _ also (λ x. x)) e
 ok_sound _ e = tt
 
--- the grammar passes, by computation
-pub ok_unit : Ok unit
-ok_unit = ok_sound unit refl
-
 pub ok_inside : (p : Part) → Ok (inside p)
 ok_inside p = grind (arith, ok_sound)
 
 pub inside_opens : (p : Part) → Implies (starts (inside p)) (opens p)
 inside_opens p = grind (arith, each)
+
+-- a nesting part begins with a sign that opens a nesting
+pub opens_by : (p : Part) (k : Kind) → opens p (kind_sort k) ≡ true → IsOpening k
+opens_by group k e = subst IsOpening (sym (is_mark LeftParen k (eqb-true _ _ e))) tt
+opens_by signed k e = grind (arith, eqb-true, is_mark Not k, is_mark AndReduce k, is_mark OrReduce k, is_mark XorReduce k)
 
 pub inside_begins : (p : Part) → Implies (opens p) (begins (inside p))
 inside_begins p = grind (arith, each)

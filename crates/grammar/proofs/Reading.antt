@@ -12,7 +12,7 @@ use Rattle.grammar.specs.Rules.{Part, Rule, mark, ◌then◌, maybe, many, eithe
 use Rattle.grammar.specs.Sorts.{integer_sort, sign_sort, end_sort, kind_sort, sort, second, nullable, starts, opens}
 use Rattle.grammar.specs.Trees.{word_of, Tree, words, depth, mark_at, keyword_at, name_at, integer_at, both, none, some, end, more, left, right, one, other, last, closing, next, nested}
 use Rattle.grammar.specs.Reading.{Out, got, wrong, deep, and_then, map_out, IsWord, word_out, read_word, read_many, series_on, read_series, plain, read_with, read_part, read}
-use Rattle.grammar.proofs.Checks.{continues, single, pairs, begins, Apart, Implies, Ok, word_ok, word_not_nullable, word_no_end, ok_inside, inside_begins, inside_closes, opens_no_end}
+use Rattle.grammar.proofs.Checks.{continues, single, pairs, begins, Apart, Implies, Ok, word_ok, word_not_nullable, word_no_end, ok_inside, inside_begins, inside_closes, opens_no_end, opens_by}
 use Rattle.grammar.proofs.Shapes.{shape, first_word, two_words, Leaf, leaf, sample, begun}
 use Rattle.grammar.proofs.Steps.{Hit, hit_sort, hit_second, Goes, Fails, Done, Reads, Only, Comes, alike, seqs}
 
@@ -251,7 +251,7 @@ part_none p ws true c = record { before = []; whole = refl; right = inl refl; st
 
     goes : (us : List Token) → opens p (sort us) ≡ true → Goes true (part p) [] us
     goes [] e = both_ways (opens p end_sort) (opens_no_end p) e
-    goes (w ∷ us) e = let (t, vs, x, y) = begun (inside p) w (inside_begins p (w ∷ us) e) in (nested p t, vs, x)
+    goes (w ∷ us) e = let (t, vs, x, y) = begun (inside p) w (inside_begins p (w ∷ us) e) in (opens_by p w.kind e, nested p t, vs, x)
 
 part_more : (n : ℕ) (p : Part) (ws : List Token) (o : Out (Tree (inside p))) → Reads n (inside p) ws o → (c : Bool) → opens p (sort ws) ≡ c → Reads (suc n) (part p) ws (cond c (map_out (nested p) o) (wrong ws))
 unfolding words depth

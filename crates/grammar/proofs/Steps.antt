@@ -5,6 +5,7 @@ use Rattle.words.specs.declared.token.Token.{Token}
 use Rattle.grammar.specs.Rules.{Rule}
 use Rattle.grammar.specs.Sorts.{sort, second}
 use Rattle.grammar.specs.Trees.{Tree, words, depth}
+use Rattle.grammar.specs.Promise.{IsOpening}
 use Rattle.grammar.specs.Reading.{Out, got, wrong, deep, and_then, map_out}
 use Rattle.grammar.proofs.Checks.{continues}
 
@@ -39,11 +40,11 @@ abbrev pub Within : Bool → ℕ → {r : Rule} → Tree r → Type 0
 Within true n t = depth t ≤ n
 Within false n t = Unit
 
--- where nesting is the refusal, some tree goes on with the next word
+-- where nesting is the refusal, the next word opens a nesting, and some tree goes on with it
 abbrev pub Goes : Bool → Rule → List Token → List Token → Type 0
 Goes false r us rest = Unit
 Goes true r us [] = ⊥
-Goes true r us (w ∷ rest) = (t : Tree r) × (vs : List Token) × (words t ≡ us ++ w ∷ [] ++ vs)
+Goes true r us (w ∷ rest) = IsOpening w.kind × (t : Tree r) × (vs : List Token) × (words t ≡ us ++ w ∷ [] ++ vs)
 
 -- a refusal at rest, for nesting or not
 pub record Fails (nesting : Bool) (n : ℕ) (r : Rule) (ws rest : List Token) : Type 0 where
@@ -80,7 +81,7 @@ module _ {a r : Rule} (n m : ℕ) (pre tl ws ws' : List Token) (lift : Tree a �
   goes_via : (f : Bool) (us rest : List Token) → Goes f a us rest → Goes f r (pre ++ us) rest
   goes_via false us rest g = tt
   goes_via true us [] g = g
-  goes_via true us (w ∷ rest) (t, vs, e) = (lift t, vs ++ tl, longer t (us ++ w ∷ []) vs e ∙ ap (λ l. l ++ (vs ++ tl)) (sym (append_assoc pre us (w ∷ []))))
+  goes_via true us (w ∷ rest) (o, t, vs, e) = (o, lift t, vs ++ tl, longer t (us ++ w ∷ []) vs e ∙ ap (λ l. l ++ (vs ++ tl)) (sym (append_assoc pre us (w ∷ []))))
 
   fails_via : (f : Bool) (rest : List Token) (x : Fails f n a ws rest) → ((u : Tree r) → Hit r (words u) (pre ++ x.before) rest → (v : Tree a) × (depth u ≤ m → depth v ≤ n) × Hit a (words v) x.before rest) → Fails f m r ws' rest
   fails_via f rest x back = record {

@@ -1,5 +1,5 @@
 -- How a rule is read from the front of a list of words, by the next word and at a fork by the next two.
--- The contracts of the single readers cite it; what is promised of a whole text (Promise) does not rest on it. Assumes nothing.
+-- The contracts of the single readers cite it. What it comes to, Laws says in the words of Promise, which does not rest on it. Assumes nothing.
 use Rattle.std.specs.Prelude.{ℕ, zero, suc, Bool, cond, if◌then◌else◌, not, ◌&&◌, List, [], ◌∷◌, length, ◌==◌, Option, Some, None}
 use Rattle.words.specs.declared.token.Sign.{Sign}
 use Rattle.words.specs.declared.token.Sign.TheVariants.{Dollar}

@@ -13,7 +13,8 @@ pub use draft::{
 
 /// The laws of reading. A whole text of words is read as the module whose words they are, where that nests at most 16
 /// deep. Otherwise the reader stops at the first word with which no module goes on, or at the sign that opens a
-/// seventeenth nesting. No two modules have the same words.
+/// seventeenth nesting. No two modules have the same words. A step, a connection, an expression, a reference and a list
+/// of integers are read likewise from the front of a list of words, within any number of nestings: as far as they go on.
 pub fn grammar_laws()
     ensures { GrammarLaws }
 {}
