@@ -11,7 +11,7 @@ use Rattle.grammar.specs.Reading.{Out, got, wrong, deep, read}
 use Rattle.grammar.specs.Promise.{deepest, Begins, Continues, ContinuesWithin, FirstWrong, FirstDeep}
 use Rattle.text.specs.declared.faults.ReadFault.{ReadFault}
 use Rattle.text.specs.declared.faults.ReadFault.TheVariants.{OutOfMemory, LongText, Word, Unexpected, TooDeep}
-use Rattle.text.specs.Parsed.{front_place, longest, Accepted, Refused}
+use Rattle.text.specs.Parsed.{front_place, longest_text, Accepted, Refused}
 use Rattle.cursor.specs.declared.stop.Stop.TheVariants.{Unexpected as Wrong, TooDeep as Deep}
 use Rattle.std.proofs.lemmas.Bool.{cases_lt}
 use Rattle.text.proofs.Words.{whole_module, left_over, stopped}
@@ -112,14 +112,14 @@ abbrev Faulty : List ℕ → Type 0
 Faulty text = (fault : ReadFault) × Refused text fault
 
 -- the words of a text are a module's, or they stop
-answer : (text : List ℕ) (tokens : List Token) → length text ≤ longest → Spelled text tokens → (o : Out (Tree unit)) → read deepest unit tokens ≡ o → ((draft : DraftLists) × Accepted text draft) ⊎ Faulty text
+answer : (text : List ℕ) (tokens : List Token) → length text ≤ longest_text → Spelled text tokens → (o : Out (Tree unit)) → read deepest unit tokens ≡ o → ((draft : DraftLists) × Accepted text draft) ⊎ Faulty text
 answer text tokens short spelled (got t []) e = inl (draft_of t, record { short = short; tokens = tokens; spelled = spelled; are = whole_module tokens t (draft_of t) e refl })
 answer text tokens short spelled (got t (w ∷ rest)) e = inr (Unexpected w.place, record { short = short; tokens = tokens; spelled = spelled; are = left_over tokens (w ∷ rest) (length text) t (omega arith) e })
 answer text tokens short spelled (wrong rest) e = inr (Unexpected (front_place (length text) rest), record { short = short; tokens = tokens; spelled = spelled; are = stopped tokens rest (length text) Wrong e })
 answer text tokens short spelled (deep rest) e = inr (TooDeep (front_place (length text) rest), record { short = short; tokens = tokens; spelled = spelled; are = stopped tokens rest (length text) Deep e })
 
 pub some_answer : SomeAnswer
-some_answer text = elim (cases_lt longest (length text)) [
+some_answer text = elim (cases_lt longest_text (length text)) [
   | inl long ↦ inr (LongText, long)
   | inr short ↦ elim (some_reading text) [
     | inl (tokens, spelled) ↦ answer text tokens short spelled (read deepest unit tokens) refl

@@ -7,7 +7,7 @@ use Rattle.cursor.specs.declared.stop.Stop.TheVariants.{Unexpected as Wrong, Too
 use Rattle.cursor.specs.Told.{RoomLeft}
 use Rattle.grammar.proofs.Room.{rows_room_less}
 use Rattle.text.specs.declared.faults.ReadFault.TheVariants.{OutOfMemory}
-use Rattle.text.specs.Parsed.{stop_fault}
+use Rattle.text.specs.Inner.{stop_fault}
 
 -- empty tables have room for a row for each of at most so many words
 pub enough : (limit words : ℕ) (rows : Rows) → words ≤ limit → RowsRoom limit limit rows → RowsRoom limit (words + (limit - words)) rows

@@ -15,7 +15,8 @@ use Rattle.cursor.specs.declared.stop.Stop.{Stop}
 use Rattle.cursor.specs.declared.stop.Stop.TheVariants.{Unexpected as Wrong, TooDeep as Deep, OutOfMemory as NoMemory}
 use Rattle.cursor.specs.Told.{Stopped}
 use Rattle.text.specs.declared.faults.ReadFault.TheVariants.{Unexpected}
-use Rattle.text.specs.Parsed.{front_place, IsDraft, IsStopped, stop_fault}
+use Rattle.text.specs.Parsed.{front_place, IsDraft}
+use Rattle.text.specs.Inner.{IsStopped, stop_fault}
 
 -- what reading comes to, the law says of the words
 whole : (tokens : List Token) (o : Out (Tree unit)) → read deepest unit tokens ≡ o → Whole tokens o

@@ -6,14 +6,12 @@ use Rattle.grammar.specs.Rules.{unit}
 use Rattle.grammar.specs.Trees.{Tree, words, depth}
 use Rattle.grammar.specs.Drafts.{DraftLists, draft_of}
 use Rattle.grammar.specs.Promise.{deepest, FirstWrong, FirstDeep}
-use Rattle.cursor.specs.declared.stop.Stop.{Stop}
-use Rattle.cursor.specs.declared.stop.Stop.TheVariants.{Unexpected as Wrong, TooDeep as Deep, OutOfMemory as NoMemory}
 use Rattle.text.specs.declared.faults.ReadFault.{ReadFault}
 use Rattle.text.specs.declared.faults.ReadFault.TheVariants.{OutOfMemory, LongText, Word, Unexpected, TooDeep}
 
 -- how many bytes a text has at most
-abbrev pub longest : ℕ
-longest = 16384
+abbrev pub longest_text : ℕ
+longest_text = 16384
 
 -- the place of the first of these words or, where none is left, the text's length
 abbrev pub front_place : ℕ → List Token → ℕ
@@ -34,18 +32,9 @@ pub record StopsAt (Stops : List Token → List Token → Type 0) (tokens : List
   pub stops : Stops tokens rest
   pub there : place ≡ front_place bytes rest
 
--- Why the words of a text of so many bytes are no module's: the place of the first wrong word or, where the text ends early, of
--- its end; or the place of the sign that opens the seventeenth nesting. For want of memory the rest of a text may stay unread.
-abbrev pub IsStopped : List Token → ℕ → ReadFault → Type 0
-IsStopped tokens bytes OutOfMemory = Unit {0}
-IsStopped tokens bytes LongText = ⊥
-IsStopped tokens bytes (Word fault) = ⊥
-IsStopped tokens bytes (Unexpected place) = StopsAt FirstWrong tokens bytes place
-IsStopped tokens bytes (TooDeep place) = StopsAt FirstDeep tokens bytes place
-
 -- a text that is not too long has words, and they are so
 pub record HasWords (text : List ℕ) (Are : List Token → Type 0) : Type 0 where
-  pub short : length text ≤ longest
+  pub short : length text ≤ longest_text
   pub tokens : List Token
   pub spelled : Spelled text tokens
   pub are : Are tokens
@@ -58,13 +47,7 @@ Accepted text draft = HasWords text (λ tokens. IsDraft tokens draft)
 -- of memory.
 abbrev pub Refused : List ℕ → ReadFault → Type 0
 Refused text OutOfMemory = ⊥
-Refused text LongText = longest < length text
-Refused text (Word fault) = (length text ≤ longest) × Misspelled text fault
+Refused text LongText = longest_text < length text
+Refused text (Word fault) = (length text ≤ longest_text) × Misspelled text fault
 Refused text (Unexpected place) = HasWords text (λ tokens. StopsAt FirstWrong tokens (length text) place)
 Refused text (TooDeep place) = HasWords text (λ tokens. StopsAt FirstDeep tokens (length text) place)
-
--- the fault where reading stopped
-abbrev pub stop_fault : Stop → ℕ → ReadFault
-stop_fault Wrong p = Unexpected p
-stop_fault Deep p = TooDeep p
-stop_fault NoMemory p = OutOfMemory

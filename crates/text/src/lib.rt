@@ -6,7 +6,8 @@ ghost use Rattle.std.specs.Prelude.{◌≡◌, ◌≢◌, ◌≤◌, ℕ, length
 ghost use Rattle.grammar.specs.Drafts.{row_lists};
 ghost use Rattle.grammar.specs.Room.{Reserved, RowsReserved};
 ghost use Rattle.text.specs.declared.faults.ReadFault.TheVariants.{OutOfMemory};
-ghost use Rattle.text.specs.Parsed.{longest, Accepted, Refused, IsDraft, IsStopped, front_place, stop_fault};
+ghost use Rattle.text.specs.Parsed.{longest_text, Accepted, Refused, IsDraft, front_place};
+ghost use Rattle.text.specs.Inner.{IsStopped, stop_fault};
 ghost use Rattle.text.specs.Laws.{ReadLaws};
 
 use cursor::{Cursor, Stop};
@@ -21,23 +22,23 @@ pub use faults::ReadFault;
 pub use reader::Reader;
 
 /// How many bytes a text has at most.
-pub const LONGEST: usize = 16_384;
+pub const LONGEST_TEXT: usize = 16_384;
 
 // The place of the first of these words or, where none is left, the text's length.
-fn place_of(rest: &[Token], length: usize) -> usize
-    ensures { result ≡ front_place length rest.now }
+fn place_of(rest: &[Token], text_len: usize) -> usize
+    ensures { result ≡ front_place text_len rest.now }
 {
     match rest {
         [token, ..] => token.place,
-        [] => length,
+        [] => text_len,
     }
 }
 
 // Why reading stopped, with these words left of a text of that length.
-fn fault_at(stop: Stop, rest: &[Token], length: usize) -> ReadFault
-    ensures { result ≡ stop_fault stop (front_place length rest.now) }
+fn fault_at(stop: Stop, rest: &[Token], text_len: usize) -> ReadFault
+    ensures { result ≡ stop_fault stop (front_place text_len rest.now) }
 {
-    let place = place_of(rest, length);
+    let place = place_of(rest, text_len);
     match stop {
         Stop::OutOfMemory => ReadFault::OutOfMemory,
         Stop::Unexpected => ReadFault::Unexpected(place),
@@ -45,12 +46,12 @@ fn fault_at(stop: Stop, rest: &[Token], length: usize) -> ReadFault
     }
 }
 
-// Reads the module whose words these are, all those of a text of so many bytes, into the rows, in place of those that they had; or
+// Reads the module whose words these are, all those of a text of that length, into the rows, in place of those that they had; or
 // finds where the words go wrong.
 #[tactic(auto, using(crate::proofs::Words::accepted, crate::proofs::Words::stopped, crate::proofs::Words::left_over))]
-fn read_module(words: &[Token], bytes: usize, rows: &mut Rows) -> Result<Heading, ReadFault>
+fn read_module(words: &[Token], text_len: usize, rows: &mut Rows) -> Result<Heading, ReadFault>
     ensures accepted { IfOk result (λ heading. IsDraft words.now (record { heading = heading; rows = row_lists rows.new })) }
-    ensures refused { IfErr result (IsStopped words.now bytes) }
+    ensures refused { IfErr result (IsStopped words.now text_len) }
     ensures memory { (limit : ℕ) → length words.now ≤ limit → RowsReserved limit rows.old → RowsReserved limit rows.new }
     ensures room { (limit : ℕ) → length words.now ≤ limit → RowsReserved limit rows.old → IfErr result (λ e. e ≢ OutOfMemory) }
 {
@@ -58,11 +59,11 @@ fn read_module(words: &[Token], bytes: usize, rows: &mut Rows) -> Result<Heading
     let mut cursor = Cursor::new(words);
     let heading = match parse_module(&mut cursor, rows) {
         Ok(heading) => heading,
-        Err(stop) => return Err(fault_at(stop, cursor.rest(), bytes)),
+        Err(stop) => return Err(fault_at(stop, cursor.rest(), text_len)),
     };
     match cursor.rest() {
         [] => Ok(heading),
-        rest => Err(ReadFault::Unexpected(place_of(rest, bytes))),
+        rest => Err(ReadFault::Unexpected(place_of(rest, text_len))),
     }
 }
 
@@ -71,10 +72,10 @@ fn read_module(words: &[Token], bytes: usize, rows: &mut Rows) -> Result<Heading
 fn read_text(text: &[u8], tokens: &mut Vec<Token>, rows: &mut Rows) -> Result<Heading, ReadFault>
     ensures accepted { IfOk result (λ heading. Accepted text.now (record { heading = heading; rows = row_lists rows.new })) }
     ensures refused { IfErr result (λ fault. fault ≢ OutOfMemory → Refused text.now fault) }
-    ensures memory { Reserved longest tokens.old → RowsReserved longest rows.old → Reserved longest tokens.new × RowsReserved longest rows.new }
-    ensures room { Reserved longest tokens.old → RowsReserved longest rows.old → IfErr result (λ e. e ≢ OutOfMemory) }
+    ensures memory { Reserved longest_text tokens.old → RowsReserved longest_text rows.old → Reserved longest_text tokens.new × RowsReserved longest_text rows.new }
+    ensures room { Reserved longest_text tokens.old → RowsReserved longest_text rows.old → IfErr result (λ e. e ≢ OutOfMemory) }
 {
-    if text.len() > LONGEST {
+    if text.len() > LONGEST_TEXT {
         return Err(ReadFault::LongText);
     }
     read_tokens(text, tokens)?;

@@ -3,10 +3,10 @@ ghost use Rattle.std.specs.Prelude.{◌≡◌, IfOk, IfErr};
 ghost use Rattle.grammar.specs.Drafts.{draft_lists};
 ghost use Rattle.grammar.specs.Room.{Reserved, RowsReserved};
 ghost use Rattle.text.specs.declared.faults.ReadFault.TheVariants.{OutOfMemory};
-ghost use Rattle.text.specs.Parsed.{longest, Accepted, Refused};
+ghost use Rattle.text.specs.Parsed.{longest_text, Accepted, Refused};
 
 use crate::faults::ReadFault;
-use crate::{LONGEST, read_text};
+use crate::{LONGEST_TEXT, read_text};
 use grammar::{Draft, Rows};
 use std::alloc::Global;
 use words::Token;
@@ -17,8 +17,8 @@ use words::Token;
 pub struct Reader {
     tokens: Vec<Token>,
     rows: Rows,
-    ghost words: { Reserved longest tokens },
-    ghost tables: { RowsReserved longest rows },
+    ghost words: { Reserved longest_text tokens },
+    ghost tables: { RowsReserved longest_text rows },
 }
 
 impl Reader {
@@ -26,8 +26,8 @@ impl Reader {
     pub fn new(heap: Global) -> Result<Reader, ReadFault>
         ensures { IfErr result (λ fault. fault ≡ OutOfMemory) }
     {
-        let tokens = Vec::with_capacity(heap, LONGEST)?;
-        let rows = Rows::with_capacity(heap, LONGEST)?;
+        let tokens = Vec::with_capacity(heap, LONGEST_TEXT)?;
+        let rows = Rows::with_capacity(heap, LONGEST_TEXT)?;
         Ok(Reader { tokens, rows })
     }
 
