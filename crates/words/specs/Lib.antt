@@ -3,4 +3,5 @@ pub mod Spelling
 pub mod Signs
 pub mod Laws
 pub mod Reading
+pub mod Inner
 pub mod Faults

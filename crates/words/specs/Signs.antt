@@ -1,4 +1,4 @@
--- The sign that a text begins with, as the reader looks for it: of two bytes, or else of one. Assumes nothing.
+-- What private functions of the reader promise one another; no public contract cites it. The sign that a text begins with, as the reader looks for it: of two bytes, or else of one. Assumes nothing.
 use Rattle.std.specs.Prelude.{ℕ, cond, ◌==◌, ◌&&◌, List, [], ◌∷◌, Option, Some, None}
 use Rattle.words.specs.declared.token.Sign.{Sign}
 use Rattle.words.specs.declared.token.Sign.TheVariants.{Dot, Colon, Semicolon, Comma, LeftParen, RightParen, LeftBracket, RightBracket, Slash, Backslash, Dollar, And, Or, Xor, Not, Star, Equal, Transfer, Branch, AndReduce, OrReduce, XorReduce}
