@@ -12,10 +12,11 @@ use Rattle.words.specs.declared.token.Token.{Token}
 use Rattle.words.specs.declared.faults.WordFault.{WordFault}
 use Rattle.words.specs.declared.faults.WordFault.TheVariants.{NoWord, LongName, LargeInteger}
 use Rattle.words.specs.Spelling.{is_separator, in_name, Separators, keyword_text, capitals, NoKeyword, longest_name, most_digits, largest_integer, decimal_value, FirstWord, BeginsWith, Spelled, FirstWordWrong, Misspelled}
-use Rattle.words.specs.Signs.{sign_at}
+use Rattle.words.proofs.SignTable.{sign_at}
 use Rattle.words.specs.Inner.{Starts, BytesBegin, Gap, RightWord, BeginsWrong}
 use Rattle.words.specs.Laws.{SomeReading}
 use Rattle.words.proofs.Bytes.{word_starts, key, keyword_of, keyword_back}
+use Rattle.words.proofs.Signs.{no_sign, first_found}
 use Rattle.words.proofs.Fronts.{name_bytes, name_right, name_wrong, integer_right, integer_wrong, sign_right, sign_wrong}
 use Rattle.words.proofs.Reading.{some_byte, gap_parts, gap_starts, reads_end, wrong_behind}
 
@@ -58,8 +59,8 @@ digit text p n h e = elim (cases_lt most_digits (length (take n text))) [
 ]
 
 signed : (text : List ℕ) (p : ℕ) → Starts text → (BytesBegin is_ascii_alphabetic text → ⊥) → (BytesBegin is_ascii_digit text → ⊥) → (o : Option (Sign × List ℕ)) → o ≡ sign_at text → Begun text p
-signed text p s l d None e = wrong (NoWord p) (sign_wrong text p s l d e)
-signed text p s l d (Some x) e = right (Mark x.0) _ (sign_right text x.0 x.1 _ e refl)
+signed text p s l d None e = wrong (NoWord p) (sign_wrong text p s l d (no_sign text e))
+signed text p s l d (Some x) e = right (Mark x.0) _ (sign_right text x.0 x.1 _ (first_found text x.0 x.1 e) refl)
 
 other : (b : ℕ) (bs : List ℕ) (p : ℕ) (t u : Bool) → is_ascii_alphabetic b ≡ t → is_ascii_digit b ≡ u → is_separator b ≡ false → Begun (b ∷ bs) p
 other b bs p true u e f s = letter (b ∷ bs) p _ e refl

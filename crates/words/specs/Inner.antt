@@ -1,9 +1,10 @@
 -- What private functions of the reader promise one another; no public contract cites it. Assumes nothing.
 use Rattle.std.specs.Prelude.{◌≡◌, ℕ, ◌≤◌, Bool, true, false, List, [], ◌∷◌, ◌++◌, length, take, drop, Result, Ok, Err}
+use Rattle.words.specs.declared.token.Sign.{Sign}
 use Rattle.words.specs.declared.token.Kind.{Kind}
 use Rattle.words.specs.declared.reader.Word.{Word}
 use Rattle.words.specs.declared.faults.WordFault.{WordFault}
-use Rattle.words.specs.Spelling.{is_separator, Separators, Longest, Says, WrongWord}
+use Rattle.words.specs.Spelling.{is_separator, Separators, sign_text, Longest, Says, WrongWord}
 
 -- the text ends, or its first byte does not pass the test
 abbrev pub Stops : (ℕ → Bool) → List ℕ → Type 0
@@ -25,6 +26,14 @@ pub record Gap (text gap front : List ℕ) : Type 0 where
 abbrev pub BytesBegin : (ℕ → Bool) → List ℕ → Type 0
 BytesBegin test [] = ⊥
 BytesBegin test (b ∷ bs) = test b ≡ true
+
+-- the text begins with no sign
+abbrev pub NoSign : List ℕ → Type 0
+NoSign text = (s : Sign) (rest : List ℕ) → text ≡ sign_text s ++ rest → ⊥
+
+-- the text begins with this sign and with no longer one, and the rest follows it
+abbrev pub FirstSign : List ℕ → Sign → List ℕ → Type 0
+FirstSign text s rest = (text ≡ sign_text s ++ rest) × ((t : Sign) (more : List ℕ) → text ≡ sign_text t ++ more → length (sign_text t) ≤ length (sign_text s))
 
 -- the first n bytes of the text are a word of this kind, as long as it can be
 pub record RightWord (text : List ℕ) (kind : Kind) (n : ℕ) : Type 0 where
