@@ -7,8 +7,8 @@ use Rattle.words.specs.declared.token.Sign.TheVariants.{Dot, Colon, Semicolon, C
 use Rattle.words.specs.declared.token.Keyword.{Keyword}
 use Rattle.words.specs.declared.token.Keyword.TheVariants.{Module, Inputs, Outputs, Memory, Buses, Body, Sequence, EndSequence, ControlReset, Null, DeadEnd, End}
 use Rattle.words.specs.Spelling.{is_separator, Every, Separators, sign_text, keyword_text, capitals, in_name, Lettered, Digits, OneWord, lettered, digits, sign}
-use Rattle.words.specs.Signs.{sign_at}
-use Rattle.words.specs.Reading.{Starts}
+use Rattle.words.proofs.SignTable.{sign_at}
+use Rattle.words.specs.Inner.{Starts}
 
 -- letters, digits and separators are different bytes
 pub letter_no_digit : (b : ℕ) → is_ascii_alphabetic b ≡ true → is_ascii_digit b ≡ false

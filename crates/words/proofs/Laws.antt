@@ -6,9 +6,9 @@ use Rattle.words.specs.declared.token.Kind.TheVariants.{Reserved, Name, Integer,
 use Rattle.words.specs.declared.token.Token.{Token}
 use Rattle.words.specs.declared.faults.WordFault.{WordFault}
 use Rattle.words.specs.declared.faults.WordFault.TheVariants.{NoWord, LongName, LargeInteger}
-use Rattle.words.specs.Spelling.{is_separator, Separators, Lettered, Digits, OneWord, Longest, Says, FirstWord, BeginsWith, WrongWord, FirstWrong, longest_name, most_digits, largest_integer, decimal_value}
-use Rattle.words.specs.Laws.{OneSpelling, OneMisspelling, NotBoth, Piece, together, Pieces, Whole, WordLaws}
-use Rattle.words.specs.Reading.{Starts}
+use Rattle.words.specs.Spelling.{is_separator, Separators, Lettered, Digits, OneWord, Longest, Says, FirstWord, BeginsWith, WrongWord, FirstWordWrong, longest_name, most_digits, largest_integer, decimal_value}
+use Rattle.words.specs.Laws.{OneSpelling, OneMisspelling, NotBoth, Piece, together, Pieces, PutTogether, WordLaws}
+use Rattle.words.specs.Inner.{Starts}
 use Rattle.words.proofs.Total.{some_reading}
 use Rattle.words.proofs.Bytes.{lead, first, one_sign, one_keyword, keyword_length, lead_lettered, lead_digits, lead_reserved, lead_mark, word_starts, starts_append, every_right, blank_starts}
 
@@ -138,7 +138,7 @@ Stuck p text = (t : Token) → FirstWord p text t → ⊥
 gap_starts : (p : ℕ) (text : List ℕ) (t : Token) (w : FirstWord p text t) → Starts (w.bytes ++ w.rest)
 gap_starts p text t w = starts_append w.bytes w.rest (word_starts w.bytes w.longest.one)
 
-stuck_wrong : (p : ℕ) (text : List ℕ) (fault : WordFault) → FirstWrong p text fault → Stuck p text
+stuck_wrong : (p : ℕ) (text : List ℕ) (fault : WordFault) → FirstWordWrong p text fault → Stuck p text
 stuck_wrong p text fault f t w =
     let g = one_gap f.gap w.gap (f.first ∷ f.more) (w.bytes ++ w.rest) f.blank w.blank (wrong_starts f.first f.more _ fault f.wrong) (gap_starts p text t w) (sym f.parted ∙ w.parted) in
     right_word f.first f.more _ fault f.wrong w.bytes w.rest t.kind g.1 w.longest w.says
@@ -146,7 +146,7 @@ stuck_wrong p text fault f t w =
 stuck_blank : (p : ℕ) (text : List ℕ) → Separators text → Stuck p text
 stuck_blank p text h t w = blank_starts (w.bytes ++ w.rest) (every_right is_separator w.gap (w.bytes ++ w.rest) (subst Separators w.parted h)) (gap_starts p text t w)
 
-blank_wrong : (p : ℕ) (text : List ℕ) (fault : WordFault) → Separators text → FirstWrong p text fault → ⊥
+blank_wrong : (p : ℕ) (text : List ℕ) (fault : WordFault) → Separators text → FirstWordWrong p text fault → ⊥
 blank_wrong p text fault h f = blank_starts (f.first ∷ f.more) (every_right is_separator f.gap (f.first ∷ f.more) (subst Separators f.parted h)) (wrong_starts f.first f.more _ fault f.wrong)
 
 -- a wrong word is wrong in one way
@@ -163,7 +163,7 @@ one_wrong b more p (LargeInteger q) (LongName r) h i =
     let z = one_longest h.1 h.2 i.1 i.2 h.4 i.4 (sym h.3 ∙ i.3) in let x = lead_digits h.1 h.5 in let y = lead_lettered i.1 i.5 in let e = ap (λ bs. lead (first bs)) z.0 in absurd (omega arith)
 one_wrong b more p (LargeInteger q) (LargeInteger r) h i = ap LargeInteger (h.0 ∙ sym i.0)
 
-one_first_wrong : (p : ℕ) (text : List ℕ) (f g : WordFault) → FirstWrong p text f → FirstWrong p text g → f ≡ g
+one_first_wrong : (p : ℕ) (text : List ℕ) (f g : WordFault) → FirstWordWrong p text f → FirstWordWrong p text g → f ≡ g
 one_first_wrong p text f g x y =
     let e = one_gap x.gap y.gap (x.first ∷ x.more) (y.first ∷ y.more) x.blank y.blank (wrong_starts x.first x.more _ f x.wrong) (wrong_starts y.first y.more _ g y.wrong) (sym x.parted ∙ y.parted) in
     let b : x.first ≡ y.first = let z = e.1 in cc in
@@ -193,7 +193,7 @@ one_spelling text ts us x y = (same_words 0 text ts us x.place x.tail y.place y.
 pub one_misspelling : OneMisspelling
 one_misspelling text f g x y =
     let z = same_words 0 text x.before y.before x.place x.tail y.place y.tail x.words y.words (stuck_wrong x.place x.tail f x.wrong) (stuck_wrong y.place y.tail g y.wrong) in
-    one_first_wrong y.place y.tail f g (along (λ i. FirstWrong (z.place i) (z.after i) f) x.wrong) y.wrong
+    one_first_wrong y.place y.tail f g (along (λ i. FirstWordWrong (z.place i) (z.after i) f) x.wrong) y.wrong
 
 pub not_both : NotBoth
 not_both text ts f x y =
@@ -229,7 +229,7 @@ parted front here p (t ∷ ts) q rest e x =
       );
     }
 
-pub whole : Whole
+pub whole : PutTogether
 whole text ts x = let z = parted [] text 0 ts x.place x.tail refl x.words in (z.pieces, x.tail, z.right, x.blank, z.whole)
 
 pub word_laws_lem : WordLaws

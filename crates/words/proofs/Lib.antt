@@ -1,3 +1,4 @@
+pub mod SignTable
 pub mod Bytes
 pub mod Keywords
 pub mod Decimals

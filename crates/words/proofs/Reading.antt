@@ -4,9 +4,10 @@ use Rattle.std.proofs.lemmas.List.{nil_from_length}
 use Rattle.std.specs.List.{prefix_len}
 use Rattle.words.specs.declared.token.Token.{Token}
 use Rattle.words.specs.declared.faults.WordFault.{WordFault}
-use Rattle.words.specs.Spelling.{is_separator, Separators, Longest, Says, BeginsWith, WrongWord, FirstWrong}
+use Rattle.words.specs.Spelling.{is_separator, Separators, Longest, Says, BeginsWith, WrongWord, FirstWordWrong}
 use Rattle.words.specs.declared.reader.Word.{Word}
-use Rattle.words.specs.Reading.{Starts, Stops, Gap, Found, RightWord, BeginsWrong, Unread, ReadsWord, token_of}
+use Rattle.words.specs.Reading.{Unread, ReadsWord, token_of}
+use Rattle.words.specs.Inner.{Starts, Stops, Gap, Found, RightWord, BeginsWrong}
 use Rattle.words.proofs.Bytes.{word_starts}
 use Rattle.words.proofs.Runs.{run_at}
 
@@ -46,11 +47,11 @@ reads_end before text gap front g e l =
     let all : gap ≡ before.rest = sym (g.parted ∙ ap (λ (xs : List ℕ). gap ++ xs) none ∙ append-nil gap) ∙ e in
     (subst Separators all g.blank, none, ap (length {A = ℕ}) all)
 
-pub wrong_behind : (p : ℕ) (text gap front : List ℕ) (q : ℕ) (fault : WordFault) → text ≡ gap ++ front → Separators gap → q ≡ p + length gap → BeginsWrong front q fault → FirstWrong p text fault
+pub wrong_behind : (p : ℕ) (text gap front : List ℕ) (q : ℕ) (fault : WordFault) → text ≡ gap ++ front → Separators gap → q ≡ p + length gap → BeginsWrong front q fault → FirstWordWrong p text fault
 wrong_behind p text gap [] q fault e s l h = absurd h
 wrong_behind p text gap (b ∷ bs) q fault e s l h = record { gap = gap; first = b; more = bs; parted = e; blank = s; wrong = subst (λ (k : ℕ). WrongWord b bs k fault) l h }
 
-pub reads_wrong : (before : Unread) (text gap front : List ℕ) (q : ℕ) (fault : WordFault) → Gap text gap front → text ≡ before.rest → BeginsWrong front q fault → q ≡ before.place + length gap → FirstWrong before.place before.rest fault
+pub reads_wrong : (before : Unread) (text gap front : List ℕ) (q : ℕ) (fault : WordFault) → Gap text gap front → text ≡ before.rest → BeginsWrong front q fault → q ≡ before.place + length gap → FirstWordWrong before.place before.rest fault
 reads_wrong before text gap front q fault g e w l = wrong_behind before.place before.rest gap front q fault (sym e ∙ g.parted) g.blank l w
 
 pub reads_word : (before : Unread) (word : Word) (after : Unread) (text gap front : List ℕ) (q : ℕ) (rest : List ℕ) → Gap text gap front → text ≡ before.rest → Found front q word rest → q ≡ before.place + length gap → after.rest ≡ rest → after.place ≡ q + length word.text.now → ReadsWord before word after

@@ -2,7 +2,7 @@
 use Rattle.std.proofs.Common.{◌≡◌, ℕ, ◌+◌, ◌≤◌, Bool, true, false, cond, List, [], ◌∷◌, length, take, drop, get_or, sym, refl, ◌∙◌, subst, true≢false, one-add, arith}
 use Rattle.std.specs.List.{prefix_len}
 use Rattle.words.specs.Spelling.{Every}
-use Rattle.words.specs.Reading.{Begins, Stops}
+use Rattle.words.specs.Inner.{BytesBegin, Stops}
 
 pub record Run (test : ℕ → Bool) (text : List ℕ) (n : ℕ) : Type 0 where
   pub within : n ≤ length text
@@ -24,10 +24,10 @@ pub run_within : (test : ℕ → Bool) (text : List ℕ) → prefix_len test tex
 run_within test text = (run test text).within
 
 -- a front that is no part of the run before it
-pub begins_at : (test : ℕ → Bool) (text : List ℕ) → 1 ≤ length text → test (get_or text 0 0) ≡ true → Begins test text
+pub begins_at : (test : ℕ → Bool) (text : List ℕ) → 1 ≤ length text → test (get_or text 0 0) ≡ true → BytesBegin test text
 begins_at test [] l e = absurd (omega arith)
 begins_at test (b ∷ bs) l e = e
 
-pub begins_not : (test : ℕ → Bool) (text : List ℕ) → test (get_or text 0 0) ≡ false → Begins test text → ⊥
+pub begins_not : (test : ℕ → Bool) (text : List ℕ) → test (get_or text 0 0) ≡ false → BytesBegin test text → ⊥
 begins_not test [] e h = h
 begins_not test (b ∷ bs) e h = true≢false (sym h ∙ e)

@@ -1,10 +1,12 @@
 -- Signs at the front of a text. Assumes nothing.
-use Rattle.std.proofs.Common.{◌≡◌, ℕ, ◌+◌, ◌≤◌, Bool, true, false, cond, ◌==◌, ◌&&◌, List, [], ◌∷◌, ◌++◌, length, Some, None, Option, sym, refl, ap, ap₂, ◌∙◌, subst, T, eqb→eq, append_assoc, arith, length-append}
+use Rattle.std.proofs.Common.{◌≡◌, ℕ, ◌+◌, ◌<◌, ◌≤◌, Bool, true, false, cond, ◌==◌, ◌&&◌, List, [], ◌∷◌, ◌++◌, length, Some, None, Option, inl, inr, sym, refl, ap, ap₂, ◌∙◌, subst, T, eqb→eq, append_assoc, arith, length-append}
+use Rattle.std.proofs.lemmas.Bool.{cases_lt}
 use Rattle.words.specs.declared.token.Sign.{Sign}
 use Rattle.words.specs.declared.token.Sign.TheVariants.{Dot, Colon, Semicolon, Comma, LeftParen, RightParen, LeftBracket, RightBracket, Slash, Backslash, Dollar, And, Or, Xor, Not, Star, Equal, Transfer, Branch, AndReduce, OrReduce, XorReduce}
 use Rattle.words.specs.Spelling.{sign_text, OneWord, lettered, digits, sign, Longest}
-use Rattle.words.specs.Signs.{long_sign, short_sign, followed, short_at, or_short, sign_at}
-use Rattle.words.proofs.Bytes.{lead, first, lead_sign, lead_lettered, lead_digits, sign_length, sign_or}
+use Rattle.words.specs.Inner.{NoSign, FirstSign}
+use Rattle.words.proofs.SignTable.{long_sign, short_sign, followed, short_at, or_short, sign_at, sign_len}
+use Rattle.words.proofs.Bytes.{lead, first, lead_sign, lead_lettered, lead_digits, sign_length}
 
 is_true : {t : Bool} → t ≡ true → T t
 is_true e = subst T (sym e) tt
@@ -75,7 +77,7 @@ begun [] = tt
 begun (a ∷ []) = begun_followed (a ∷ []) [] (short_sign a) (short_writes a)
 begun (a ∷ b ∷ rest) = begun_or (a ∷ b ∷ rest) (followed (long_sign a b) rest) (begun_followed (a ∷ b ∷ []) rest (long_sign a b) (long_writes a b)) (begun_followed (a ∷ []) (b ∷ rest) (short_sign a) (short_writes a))
 
-pub sign_begins : (text : List ℕ) (s : Sign) (rest : List ℕ) → Some (s, rest) ≡ sign_at text → text ≡ sign_text s ++ rest
+sign_begins : (text : List ℕ) (s : Sign) (rest : List ℕ) → Some (s, rest) ≡ sign_at text → text ≡ sign_text s ++ rest
 sign_begins text s rest e = subst (Begun text) (sym e) (begun text)
 
 -- a sign of two bytes is found where it stands
@@ -140,8 +142,8 @@ missed AndReduce rest e = cc
 missed OrReduce rest e = cc
 missed XorReduce rest e = cc
 
-pub no_sign : (text : List ℕ) (s : Sign) (rest : List ℕ) → None ≡ sign_at text → text ≡ sign_text s ++ rest → ⊥
-no_sign text s rest e f = missed s rest (ap sign_at (sym f) ∙ sym e)
+pub no_sign : (text : List ℕ) → None ≡ sign_at text → NoSign text
+no_sign text e s rest f = missed s rest (ap sign_at (sym f) ∙ sym e)
 
 -- the sign that is found is the longest
 first_sign : (s : Sign) (more : List ℕ) → first (sign_text s ++ more) ≡ first (sign_text s)
@@ -168,22 +170,34 @@ first_sign AndReduce more = refl
 first_sign OrReduce more = refl
 first_sign XorReduce more = refl
 
-no_longer_sign : (text : List ℕ) (s t : Sign) (rest : List ℕ) (b : ℕ) (more others : List ℕ) → Some (s, rest) ≡ sign_at text → rest ≡ b ∷ (more ++ others) → sign_text s ++ b ∷ more ≡ sign_text t → ⊥
-no_longer_sign text s t rest b more others e f g =
+-- no sign that stands there is longer
+as_long : (t : Sign) (more : List ℕ) (o : Option (Sign × List ℕ)) → o ≡ sign_at (sign_text t ++ more) → length (sign_text t) ≤ sign_len o
+as_long t more None e = absurd (missed t more (sym e))
+as_long t more (Some x) e = elim (cases_lt 1 (length (sign_text t))) [
+  | inl l ↦ omega (arith, ap sign_len (e ∙ long_found t more l))
+  | inr l ↦ let n = (sign_length x.0).1 in omega arith
+]
+
+pub no_longer : (text : List ℕ) (t : Sign) (more : List ℕ) → text ≡ sign_text t ++ more → sign_len (sign_at text) < length (sign_text t) → ⊥
+no_longer text t more e l =
+    let h = as_long t more (sign_at text) (ap sign_at e) in omega arith
+
+pub first_found : (text : List ℕ) (s : Sign) (rest : List ℕ) → Some (s, rest) ≡ sign_at text → FirstSign text s rest
+first_found text s rest e = (sign_begins text s rest e, λ t more f. let h = as_long t more (Some (s, rest)) (e ∙ ap sign_at f) in h)
+
+longer_sign : (text : List ℕ) (s t : Sign) (rest : List ℕ) (b : ℕ) (more others : List ℕ) → FirstSign text s rest → rest ≡ b ∷ (more ++ others) → sign_text s ++ b ∷ more ≡ sign_text t → ⊥
+longer_sign text s t rest b more others x f g =
     let l : length (sign_text s) + length (b ∷ more) ≡ length (sign_text t) = sym (length-append (sign_text s) (b ∷ more)) ∙ ap (length {A = ℕ}) g in
-    let n = (sign_length s).1 in
-    let whole : text ≡ sign_text t ++ others = sign_begins text s rest e ∙ ap (λ (xs : List ℕ). sign_text s ++ xs) f ∙ sym (append_assoc (sign_text s) (b ∷ more) others) ∙ ap (λ (xs : List ℕ). xs ++ others) g in
-    let found : sign_at text ≡ Some (t, others) = ap sign_at whole ∙ long_found t others (omega arith) in
-    let same : s ≡ t = ap sign_or (e ∙ found) in
-    let z = ap (λ (u : Sign). length (sign_text u)) same in omega arith
+    let whole : text ≡ sign_text t ++ others = x.0 ∙ ap (λ (xs : List ℕ). sign_text s ++ xs) f ∙ sym (append_assoc (sign_text s) (b ∷ more) others) ∙ ap (λ (xs : List ℕ). xs ++ others) g in
+    let h = x.1 t others whole in omega arith
 
-longer_word : (text : List ℕ) (s : Sign) (rest : List ℕ) (b : ℕ) (more others : List ℕ) → Some (s, rest) ≡ sign_at text → rest ≡ b ∷ (more ++ others) → OneWord (sign_text s ++ b ∷ more) → ⊥
-longer_word text s rest b more others e f (lettered l) = let x = lead_lettered (sign_text s ++ b ∷ more) l in let y = ap lead (first_sign s (b ∷ more)) ∙ lead_sign s in omega arith
-longer_word text s rest b more others e f (digits d) = let x = lead_digits (sign_text s ++ b ∷ more) d in let y = ap lead (first_sign s (b ∷ more)) ∙ lead_sign s in omega arith
-longer_word text s rest b more others e f (sign t g) = no_longer_sign text s t rest b more others e f g
+longer_word : (text : List ℕ) (s : Sign) (rest : List ℕ) (b : ℕ) (more others : List ℕ) → FirstSign text s rest → rest ≡ b ∷ (more ++ others) → OneWord (sign_text s ++ b ∷ more) → ⊥
+longer_word text s rest b more others x f (lettered l) = let x = lead_lettered (sign_text s ++ b ∷ more) l in let y = ap lead (first_sign s (b ∷ more)) ∙ lead_sign s in omega arith
+longer_word text s rest b more others x f (digits d) = let x = lead_digits (sign_text s ++ b ∷ more) d in let y = ap lead (first_sign s (b ∷ more)) ∙ lead_sign s in omega arith
+longer_word text s rest b more others x f (sign t g) = longer_sign text s t rest b more others x f g
 
-pub sign_longest : (text : List ℕ) (s : Sign) (rest : List ℕ) → Some (s, rest) ≡ sign_at text → Longest (sign_text s) rest
-sign_longest text s rest e = record {
+pub sign_longest : (text : List ℕ) (s : Sign) (rest : List ℕ) → FirstSign text s rest → Longest (sign_text s) rest
+sign_longest text s rest x = record {
   one = sign s refl;
-  no_longer = λ b more others f o. longer_word text s rest b more others e f o;
+  no_longer = λ b more others f o. longer_word text s rest b more others x f o;
 }

@@ -11,11 +11,12 @@ use Rattle.words.specs.declared.token.Kind.TheVariants.{Reserved, Name, Integer,
 use Rattle.words.specs.declared.token.Token.{Token}
 use Rattle.words.specs.declared.faults.WordFault.{WordFault}
 use Rattle.words.specs.declared.faults.WordFault.TheVariants.{NoWord, LongName, LargeInteger}
-use Rattle.words.specs.Spelling.{is_separator, in_name, Separators, keyword_text, capitals, NoKeyword, longest_name, most_digits, largest_integer, decimal_value, FirstWord, BeginsWith, Spelled, FirstWrong, Misspelled}
-use Rattle.words.specs.Signs.{sign_at}
-use Rattle.words.specs.Reading.{Starts, Begins, Gap, RightWord, BeginsWrong}
+use Rattle.words.specs.Spelling.{is_separator, in_name, Separators, keyword_text, capitals, NoKeyword, longest_name, most_digits, largest_integer, decimal_value, FirstWord, BeginsWith, Spelled, FirstWordWrong, Misspelled}
+use Rattle.words.proofs.SignTable.{sign_at}
+use Rattle.words.specs.Inner.{Starts, BytesBegin, Gap, RightWord, BeginsWrong}
 use Rattle.words.specs.Laws.{SomeReading}
 use Rattle.words.proofs.Bytes.{word_starts, key, keyword_of, keyword_back}
+use Rattle.words.proofs.Signs.{no_sign, first_found}
 use Rattle.words.proofs.Fronts.{name_bytes, name_right, name_wrong, integer_right, integer_wrong, sign_right, sign_wrong}
 use Rattle.words.proofs.Reading.{some_byte, gap_parts, gap_starts, reads_end, wrong_behind}
 
@@ -38,17 +39,17 @@ data Begun (text : List ℕ) (p : ℕ) : Type 0 where
   right : (kind : Kind) (n : ℕ) → RightWord text kind n → Begun text p
   wrong : (fault : WordFault) → BeginsWrong text p fault → Begun text p
 
-named : (text : List ℕ) (p n : ℕ) → Begins is_ascii_alphabetic text → n ≡ prefix_len in_name text → Known (take n text) → length (take n text) ≤ longest_name → Begun text p
+named : (text : List ℕ) (p n : ℕ) → BytesBegin is_ascii_alphabetic text → n ≡ prefix_len in_name text → Known (take n text) → length (take n text) ≤ longest_name → Begun text p
 named text p n h e (reserved k f) l = right (Reserved k) n (name_right text n (Reserved k) h e f)
 named text p n h e (free f) l = right (Name (length (take n text))) n (name_right text n _ h e (name_bytes text n h e, f, refl, l))
 
-letter : (text : List ℕ) (p n : ℕ) → Begins is_ascii_alphabetic text → n ≡ prefix_len in_name text → Begun text p
+letter : (text : List ℕ) (p n : ℕ) → BytesBegin is_ascii_alphabetic text → n ≡ prefix_len in_name text → Begun text p
 letter text p n h e = elim (cases_lt longest_name (length (take n text))) [
   | inl l ↦ wrong (LongName p) (name_wrong text n p h e l)
   | inr l ↦ named text p n h e (known (take n text)) l
 ]
 
-digit : (text : List ℕ) (p n : ℕ) → Begins is_ascii_digit text → n ≡ prefix_len is_ascii_digit text → Begun text p
+digit : (text : List ℕ) (p n : ℕ) → BytesBegin is_ascii_digit text → n ≡ prefix_len is_ascii_digit text → Begun text p
 digit text p n h e = elim (cases_lt most_digits (length (take n text))) [
   | inl l ↦ wrong (LargeInteger p) (integer_wrong text n p h e (λ few low. omega arith))
   | inr l ↦ elim (cases_lt largest_integer (decimal_value (take n text))) [
@@ -57,9 +58,9 @@ digit text p n h e = elim (cases_lt most_digits (length (take n text))) [
   ]
 ]
 
-signed : (text : List ℕ) (p : ℕ) → Starts text → (Begins is_ascii_alphabetic text → ⊥) → (Begins is_ascii_digit text → ⊥) → (o : Option (Sign × List ℕ)) → o ≡ sign_at text → Begun text p
-signed text p s l d None e = wrong (NoWord p) (sign_wrong text p s l d e)
-signed text p s l d (Some x) e = right (Mark x.0) _ (sign_right text x.0 x.1 _ e refl)
+signed : (text : List ℕ) (p : ℕ) → Starts text → (BytesBegin is_ascii_alphabetic text → ⊥) → (BytesBegin is_ascii_digit text → ⊥) → (o : Option (Sign × List ℕ)) → o ≡ sign_at text → Begun text p
+signed text p s l d None e = wrong (NoWord p) (sign_wrong text p s l d (no_sign text e))
+signed text p s l d (Some x) e = right (Mark x.0) _ (sign_right text x.0 x.1 _ (first_found text x.0 x.1 e) refl)
 
 other : (b : ℕ) (bs : List ℕ) (p : ℕ) (t u : Bool) → is_ascii_alphabetic b ≡ t → is_ascii_digit b ≡ u → is_separator b ≡ false → Begun (b ∷ bs) p
 other b bs p true u e f s = letter (b ∷ bs) p _ e refl
@@ -74,7 +75,7 @@ begun (b ∷ bs) p s = other b bs p _ _ refl refl s
 data Next (p : ℕ) (text : List ℕ) : Type 0 where
   none : Separators text → Next p text
   word : (t : Token) → FirstWord p text t → Next p text
-  fault : (f : WordFault) → FirstWrong p text f → Next p text
+  fault : (f : WordFault) → FirstWordWrong p text f → Next p text
 
 right_behind : (p : ℕ) (text gap front : List ℕ) (kind : Kind) (m : ℕ) → Gap text gap front → RightWord front kind m → FirstWord p text (record { kind = kind; place = p + length gap })
 right_behind p text gap front kind m g w = record {
@@ -104,7 +105,7 @@ next p text = let n = prefix_len is_separator text in next_at p text (take n tex
 -- how a text ends that begins with right words
 data End (p : ℕ) (text : List ℕ) : Type 0 where
   done : (ts : List Token) (q : ℕ) (tail : List ℕ) → BeginsWith p text ts q tail → Separators tail → End p text
-  stops : (ts : List Token) (q : ℕ) (tail : List ℕ) → BeginsWith p text ts q tail → (f : WordFault) → FirstWrong q tail f → End p text
+  stops : (ts : List Token) (q : ℕ) (tail : List ℕ) → BeginsWith p text ts q tail → (f : WordFault) → FirstWordWrong q tail f → End p text
 
 after : (p : ℕ) (text : List ℕ) (t : Token) (w : FirstWord p text t) → End (t.place + length w.bytes) w.rest → End p text
 after p text t w (done ts q tail b s) = done (t ∷ ts) q tail (w, b) s

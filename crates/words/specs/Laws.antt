@@ -38,8 +38,8 @@ Pieces text (x ∷ xs) [] = ⊥
 Pieces text (x ∷ xs) (t ∷ ts) = Separators x.gap × Says x.bytes t.kind × (take (length x.bytes) (drop t.place text) ≡ x.bytes) × Pieces text xs ts
 
 -- the words of a text and the separators between them, put together again in order, are the text
-abbrev pub Whole : Type 0
-Whole = (text : List ℕ) (tokens : List Token) → Spelled text tokens → (pieces : List Piece) × (tail : List ℕ) × Pieces text pieces tokens × Separators tail × (together pieces tail ≡ text)
+abbrev pub PutTogether : Type 0
+PutTogether = (text : List ℕ) (tokens : List Token) → Spelled text tokens → (pieces : List Piece) × (tail : List ℕ) × Pieces text pieces tokens × Separators tail × (together pieces tail ≡ text)
 
 abbrev pub WordLaws : Type 0
-WordLaws = SomeReading × OneSpelling × OneMisspelling × NotBoth × Whole
+WordLaws = SomeReading × OneSpelling × OneMisspelling × NotBoth × PutTogether

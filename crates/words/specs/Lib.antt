@@ -1,6 +1,6 @@
 pub mod Codes
 pub mod Spelling
-pub mod Signs
 pub mod Laws
 pub mod Reading
+pub mod Inner
 pub mod Faults

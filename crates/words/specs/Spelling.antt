@@ -150,7 +150,7 @@ WrongWord b more p (LongName q) = (q ≡ p) × (bytes : List ℕ) × (rest : Lis
 WrongWord b more p (LargeInteger q) = (q ≡ p) × (bytes : List ℕ) × (rest : List ℕ) × (b ∷ more ≡ bytes ++ rest) × Longest bytes rest × Digits bytes × (length bytes ≤ most_digits → decimal_value bytes ≤ largest_integer → ⊥)
 
 -- The first word of the text, whose first byte is at the place p, is wrong: separators, then the word.
-pub record FirstWrong (p : ℕ) (text : List ℕ) (fault : WordFault) : Type 0 where
+pub record FirstWordWrong (p : ℕ) (text : List ℕ) (fault : WordFault) : Type 0 where
   pub gap : List ℕ
   pub first : ℕ
   pub more : List ℕ
@@ -164,4 +164,4 @@ pub record Misspelled (text : List ℕ) (fault : WordFault) : Type 0 where
   pub place : ℕ
   pub tail : List ℕ
   pub words : BeginsWith 0 text before place tail
-  pub wrong : FirstWrong place tail fault
+  pub wrong : FirstWordWrong place tail fault

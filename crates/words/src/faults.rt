@@ -1,10 +1,12 @@
 //! Why a text has no words.
-ghost use Rattle.std.specs.Prelude.{◌≡◌};
+ghost use Rattle.std.specs.Prelude.{◌≡◌, Some};
+ghost use Rattle.fault.specs.Print.{refusal_line};
 ghost use Rattle.words.specs.Faults.{word_told};
 ghost use Rattle.words.specs.declared.faults.TokensFault.TheVariants.{OutOfMemory as NoMemory, Word as WordOf};
 
 use fault::{Fault, Layer, Refusal};
 use std::alloc::AllocFailed;
+use std::{error, fmt};
 
 /// What is wrong with a word, and the place of its first byte.
 #[derive(Clone, Copy, PartialEq, Eq, Debug)]
@@ -33,6 +35,17 @@ impl Fault for WordFault {
         }
     }
 }
+
+/// The line that tells the refusal.
+impl fmt::Display for WordFault {
+    ghost output = { λ fault. Some (refusal_line (word_told fault)) };
+
+    fn fmt<W: fmt::Write>(&self, f: &mut fmt::Formatter<W>) -> fmt::Result {
+        fmt::Display::fmt(&self.refusal(), f)
+    }
+}
+
+impl error::Error for WordFault {}
 
 /// Why the words of a text are not found.
 #[derive(Clone, Copy, PartialEq, Eq, Debug)]

@@ -3,7 +3,7 @@ ghost use Rattle.std.specs.Prelude.{◌≡◌, ◌<◌, ◌≤◌, length, Match
 ghost use Rattle.std.specs.List.{prefix_len};
 ghost use Rattle.std.specs.Char.{is_ascii_digit};
 ghost use Rattle.words.specs.Spelling.{is_separator, in_name, capitals, keyword_text, NoKeyword, Lettered, Says, longest_name, Every, decimal_value, most_digits, largest_integer};
-ghost use Rattle.words.specs.Signs.{sign_at};
+ghost use Rattle.words.specs.Inner.{NoSign, FirstSign};
 
 use crate::token::{Keyword, Kind, Sign};
 
@@ -96,8 +96,9 @@ pub(crate) fn integer(digits: &[u8]) -> Option<u16>
 }
 
 /// The longest sign that the text begins with, and what follows it.
+#[tactic(auto, using(std::proofs::lemmas::Grind::common_steps, crate::proofs::Signs::no_longer, crate::proofs::Signs::no_sign))]
 pub(crate) fn sign_at(text: &[u8]) -> Option<(Sign, &[u8])>
-    ensures { MatchOption result (None ≡ sign_at text.now) (λ x. Some (x.0, x.1.now) ≡ sign_at text.now) }
+    ensures { MatchOption result (NoSign text.now) (λ x. FirstSign text.now x.0 x.1.now) }
 {
     match text {
         [b'<', b'=', rest @ ..] => Some((Sign::Transfer, rest)),

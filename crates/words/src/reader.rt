@@ -1,7 +1,7 @@
 //! A reader of words.
 ghost use Rattle.std.specs.Prelude.{◌≡◌, ◌+◌, length, MatchResult};
 ghost use Rattle.std.specs.Char.{is_ascii_alphabetic, is_ascii_digit};
-ghost use Rattle.words.specs.Reading.{Starts, Begins, Gap, Finds, Found, BeginsWrong};
+ghost use Rattle.words.specs.Inner.{Starts, BytesBegin, Gap, Finds, Found, BeginsWrong};
 
 use crate::faults::WordFault;
 use crate::front::{gap_len, integer, integer_len, name, name_len, sign_at};
@@ -103,7 +103,7 @@ fn kind_and_len(text: &[u8], place: usize) -> Result<(Kind, usize), WordFault>
 // A name or a keyword.
 #[tactic(auto, using(crate::proofs::Fronts::name_bytes, crate::proofs::Fronts::name_right, crate::proofs::Fronts::name_wrong))]
 fn first_name(text: &[u8], place: usize) -> Result<(Kind, usize), WordFault>
-    requires { Begins is_ascii_alphabetic text.now }
+    requires { BytesBegin is_ascii_alphabetic text.now }
     ensures { Finds text.now place result }
 {
     let len = name_len(text);
@@ -114,7 +114,7 @@ fn first_name(text: &[u8], place: usize) -> Result<(Kind, usize), WordFault>
 // An integer.
 #[tactic(auto, using(crate::proofs::Fronts::integer_bytes, crate::proofs::Fronts::integer_right, crate::proofs::Fronts::integer_wrong))]
 fn first_integer(text: &[u8], place: usize) -> Result<(Kind, usize), WordFault>
-    requires { Begins is_ascii_digit text.now }
+    requires { BytesBegin is_ascii_digit text.now }
     ensures { Finds text.now place result }
 {
     let len = integer_len(text);
@@ -126,8 +126,8 @@ fn first_integer(text: &[u8], place: usize) -> Result<(Kind, usize), WordFault>
 #[tactic(auto, using(crate::proofs::Fronts::sign_wrong))]
 fn first_sign(text: &[u8], place: usize) -> Result<(Kind, usize), WordFault>
     requires starts { Starts text.now }
-    requires no_letter { ¬ Begins is_ascii_alphabetic text.now }
-    requires no_digit { ¬ Begins is_ascii_digit text.now }
+    requires no_letter { ¬ BytesBegin is_ascii_alphabetic text.now }
+    requires no_digit { ¬ BytesBegin is_ascii_digit text.now }
     ensures { Finds text.now place result }
 {
     let Some((sign, rest)) = sign_at(text) else {

@@ -1,7 +1,8 @@
 -- The sign that a text begins with, as the reader looks for it: of two bytes, or else of one. Assumes nothing.
-use Rattle.std.specs.Prelude.{ℕ, cond, ◌==◌, ◌&&◌, List, [], ◌∷◌, Option, Some, None}
+use Rattle.std.proofs.Common.{ℕ, cond, ◌==◌, ◌&&◌, List, [], ◌∷◌, length, Option, Some, None}
 use Rattle.words.specs.declared.token.Sign.{Sign}
 use Rattle.words.specs.declared.token.Sign.TheVariants.{Dot, Colon, Semicolon, Comma, LeftParen, RightParen, LeftBracket, RightBracket, Slash, Backslash, Dollar, And, Or, Xor, Not, Star, Equal, Transfer, Branch, AndReduce, OrReduce, XorReduce}
+use Rattle.words.specs.Spelling.{sign_text}
 
 -- the sign of these two bytes
 abbrev pub long_sign : ℕ → ℕ → Option Sign
@@ -49,3 +50,8 @@ abbrev pub sign_at : List ℕ → Option (Sign × List ℕ)
 sign_at [] = None
 sign_at (a ∷ []) = short_at (a ∷ [])
 sign_at (a ∷ b ∷ rest) = or_short (followed (long_sign a b) rest) (a ∷ b ∷ rest)
+
+-- how many bytes the sign has, if there is one
+abbrev pub sign_len : Option (Sign × List ℕ) → ℕ
+sign_len None = 0
+sign_len (Some x) = length (sign_text x.0)
