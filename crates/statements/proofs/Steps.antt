@@ -5,7 +5,7 @@ use Rattle.words.specs.declared.token.Sign.{Sign}
 use Rattle.words.specs.declared.token.Token.{Token}
 use Rattle.grammar.specs.Rules.{Rule, mark, ◌then◌, either, fork}
 use Rattle.grammar.specs.Sorts.{sort, starts}
-use Rattle.grammar.specs.Trees.{Tree, mark_at, both, left, right, one, other}
+use Rattle.grammar.specs.Trees.{Tree, mark_at, both, left, right, other}
 use Rattle.grammar.specs.Reading.{Out, got, wrong, deep, map_out, read_word, plain, read_with, read}
 use Rattle.cursor.specs.declared.stop.Stop.{Stop}
 use Rattle.cursor.specs.Told.{mark_place, Stopped, Told, Wrote, Gave}

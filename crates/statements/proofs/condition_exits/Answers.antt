@@ -1,6 +1,7 @@
 use Rattle.std.proofs.Common.{arith}
 use Rattle.std.proofs.lemmas.Grind.{common_steps}
-use Rattle.statements.proofs.Steps.{steps, was_read}
+use Rattle.grammar.specs.Trees.{mark_at, both}
+use Rattle.statements.proofs.Steps.{steps}
 use Rattle.std.proofs.lemmas.Result.{err_from_is_err_and}
 use Rattle.grammar.specs.declared.draft.Leaving.{Leaving}
 use Rattle.grammar.proofs.Room.{rows_room_less}
@@ -8,7 +9,13 @@ use Rattle.cursor.proofs.Room.{room_stop}
 use Rattle.statements.proofs.condition_exits.Goals as goal
 
 pub returns-clause-told : goal.returns-clause-told
-returns-clause-told c = was_read _ _ _ _ (grind (arith, common_steps, steps))
+returns-clause-told c =
+    let condition = c.in_ok-node.ensures.told in
+    let exits = c.in_ok-exits.ensures.told in (
+      both condition.0 (both c.in_ok-take.ensures.told.0 (both (mark_at c.in_ok-place.place) (both c.in_ok-take-2.ensures.told.0 (both exits.0 c.in_ok-take-3.ensures.told.0)))),
+      grind (arith, common_steps, steps),
+      grind (arith, condition.2, exits.2),
+    )
 
 pub returns-in_err-place-clause-room : goal.returns-in_err-place-clause-room
 returns-in_err-place-clause-room c = λ limit slack r.
