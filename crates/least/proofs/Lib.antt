@@ -1,0 +1,4 @@
+pub mod Notes
+pub mod Lists
+pub mod Leasts
+pub mod Finds

@@ -1,0 +1,3 @@
+pub mod Sides
+pub mod Found
+pub mod Sums
