@@ -1,164 +1,71 @@
 -- That each text has one answer. Assumes nothing.
-use Rattle.std.proofs.Common.{◌≡◌, ◌⊎◌, ℕ, ◌≤◌, List, [], ◌∷◌, ◌++◌, length, sym, refl, ap, ◌∙◌, subst, inl, inr, append_assoc, append-nil, arith}
-use Rattle.words.specs.declared.token.Token.{Token}
-use Rattle.words.specs.Spelling.{Spelled}
-use Rattle.words.proofs.Laws.{one_spelling, one_misspelling, not_both}
-use Rattle.words.proofs.Total.{some_reading}
-use Rattle.grammar.specs.Rules.{unit}
-use Rattle.grammar.specs.Trees.{Tree, words, depth}
-use Rattle.grammar.specs.Drafts.{DraftLists, draft_of}
-use Rattle.grammar.specs.Reading.{Out, got, wrong, deep, read}
-use Rattle.grammar.specs.Promise.{deepest, Begins, Continues, ContinuesWithin, FirstWrong, FirstDeep}
+use Rattle.std.proofs.Common.{◌≡◌, ◌⊎◌, ℕ, List, [], length, Option, Some, None, false, inl, inr, sym, refl, ap, ◌∙◌, subst, arith}
+use Rattle.grammar.specs.Drafts.{DraftLists}
+use Rattle.drafts.specs.Parsed.{Drafted}
+use Rattle.least.specs.declared.rule.RuleFault.{RuleFault}
+use Rattle.least.specs.Order.{least, IsLeast}
+use Rattle.least.proofs.Leasts.{least_none, least_some, one_least}
+use Rattle.rules.specs.Faults.{faults}
+use Rattle.database.specs.Rows.{Database}
+use Rattle.database.specs.Saying.{database_of}
+use Rattle.drafts.proofs.Laws.{some_answer, one_draft, one_fault, not_accepted_and_refused}
 use Rattle.text.specs.declared.faults.ReadFault.{ReadFault}
-use Rattle.text.specs.declared.faults.ReadFault.TheVariants.{OutOfMemory, LongText, Word, Unexpected, TooDeep}
-use Rattle.text.specs.Parsed.{front_place, longest_text, Accepted, Refused}
-use Rattle.cursor.specs.declared.stop.Stop.TheVariants.{Unexpected as Wrong, TooDeep as Deep}
-use Rattle.std.proofs.lemmas.Bool.{cases_lt}
-use Rattle.text.proofs.Words.{whole_module, left_over, stopped}
-use Rattle.text.specs.Laws.{SomeAnswer, OneDraft, OneFault, NotBoth, ReadLaws}
+use Rattle.text.specs.declared.faults.ReadFault.TheVariants.{OutOfMemory, ShortTable, Draft, Rule}
+use Rattle.text.specs.Promise.{Says, Breaks, Refused}
+use Rattle.text.specs.Laws.{SomeAnswer, OneDatabase, OneFault, NotBoth, ReadLaws}
 
--- of two fronts of one list each is the other, or has words more than the other
-data Fronts (a x b y : List Token) : Type 0 where
-  equal : a ≡ b → x ≡ y → Fronts a x b y
-  shorter : (w : Token) (more : List Token) → b ≡ a ++ w ∷ more → x ≡ w ∷ (more ++ y) → Fronts a x b y
-  longer : (w : Token) (more : List Token) → a ≡ b ++ w ∷ more → y ≡ w ∷ (more ++ x) → Fronts a x b y
+-- a text says a database, or has a fault
+abbrev Answered : List ℕ → Type 0
+Answered text = ((database : Database) × Says text database) ⊎ ((fault : ReadFault) × Refused false text fault)
 
-fronts_under : (v w : Token) (a x b y : List Token) → v ≡ w → Fronts a x b y → Fronts (v ∷ a) x (w ∷ b) y
-fronts_under v w a x b y p (equal e f) = equal (cc) f
-fronts_under v w a x b y p (shorter z more e f) = shorter z more (cc) f
-fronts_under v w a x b y p (longer z more e f) = longer z more (cc) f
+-- of a draft, its faults tell which
+judged : (text : List ℕ) (draft : DraftLists) → Drafted text draft → (told : Option RuleFault) → least (faults text draft) ≡ told → Answered text
+judged text draft drafted None e =
+    inl (database_of text draft, record { draft = draft; drafted = drafted; faultless = least_none (faults text draft) e; rows = refl })
+judged text draft drafted (Some fault) e =
+    inr (Rule fault, (refl, record { draft = draft; drafted = drafted; least = least_some (faults text draft) fault e }))
 
-fronts : (a x b y : List Token) → a ++ x ≡ b ++ y → Fronts a x b y
-fronts [] x [] y e = equal refl e
-fronts [] x (w ∷ b) y e = shorter w b refl e
-fronts (v ∷ a) x [] y e = longer v a refl (sym e)
-fronts (v ∷ a) x (w ∷ b) y e = fronts_under v w a x b y (cc) (fronts a x b y (cc))
-
--- Modules that nest at most 16 deep stop at rest, whether or not deeper ones go on.
-record Halts (tokens rest : List Token) : Type 0 where
-  before : List Token
-  whole : tokens ≡ before ++ rest
-  right : Begins deepest before
-  stops : ContinuesWithin before rest → ⊥
-
--- a module goes on, where one that nests at most 16 deep does
-continues : (before rest : List Token) → ContinuesWithin before rest → Continues before rest
-continues before [] c = (deepest, c)
-continues before (w ∷ rest) c = (deepest, c)
-
-abbrev wrong_halts : (tokens rest : List Token) → FirstWrong tokens rest → Halts tokens rest
-wrong_halts tokens rest f = record { before = f.before; whole = f.whole; right = f.right; stops = λ c. f.stops (continues f.before rest c) }
-
-abbrev deep_halts : (tokens rest : List Token) → FirstDeep tokens rest → Halts tokens rest
-deep_halts tokens rest f = record { before = f.before; whole = f.whole; right = f.right; stops = f.stops }
-
--- a module begins with the first of some words that it begins with
-begins_less : (a b more : List Token) (w : Token) → b ≡ a ++ w ∷ more → Begins deepest b → Begins deepest (a ++ w ∷ [])
-begins_less a b more w e (vs, (t, d, same)) = (more ++ vs, (t, d, same ∙ ap (λ l. l ++ vs) e ∙ simp append_assoc))
-
--- modules stop at one place of a list of words
-one_halt : (tokens x y : List Token) (h : Halts tokens x) (k : Halts tokens y) → (h.before ≡ k.before) × (x ≡ y)
-one_halt tokens x y h k =
-    elim (fronts h.before x k.before y (sym h.whole ∙ k.whole)) [
-      | equal p q ↦ (p, q)
-      | shorter w more p q ↦ absurd (h.stops (subst (ContinuesWithin h.before) (sym q) (begins_less h.before k.before more w p k.right)))
-      | longer w more p q ↦ absurd (k.stops (subst (ContinuesWithin k.before) (sym q) (begins_less k.before h.before more w p h.right)))
-    ]
-
--- they do not stop where a module that nests at most 16 deep has all the words
-goes_on : (tokens before rest : List Token) (t : Tree unit) → depth t ≤ deepest → words t ≡ tokens → tokens ≡ before ++ rest → ContinuesWithin before rest
-goes_on tokens before [] t d e f = (t, d, e ∙ f ∙ append-nil before)
-goes_on tokens before (w ∷ rest) t d e f = (rest, (t, d, e ∙ f ∙ sym (append_assoc before (w ∷ []) rest)))
-
--- a first wrong word is no seventeenth nesting
-not_wrong_and_deep : (tokens x y : List Token) → FirstWrong tokens x → FirstDeep tokens y → ⊥
-not_wrong_and_deep tokens x y f g =
-    let (p, q) = one_halt tokens x y (wrong_halts tokens x f) (deep_halts tokens y g) in
-    let goes : Continues f.before x = subst (λ l. Continues l x) (sym p) (subst (Continues g.before) (sym q) g.goes) in
-    f.stops goes
-
--- the words of a text stop at that place
-record Stopped (text : List ℕ) (place : ℕ) : Type 0 where
-  tokens : List Token
-  spelled : Spelled text tokens
-  rest : List Token
-  halts : Halts tokens rest
-  there : place ≡ front_place (length text) rest
-
-wrong_stopped : (text : List ℕ) (place : ℕ) → Refused text (Unexpected place) → Stopped text place
-wrong_stopped text place r = record { tokens = r.tokens; spelled = r.spelled; rest = r.are.rest; halts = wrong_halts r.tokens r.are.rest r.are.stops; there = r.are.there }
-
-deep_stopped : (text : List ℕ) (place : ℕ) → Refused text (TooDeep place) → Stopped text place
-deep_stopped text place r = record { tokens = r.tokens; spelled = r.spelled; rest = r.are.rest; halts = deep_halts r.tokens r.are.rest r.are.stops; there = r.are.there }
-
-one_place : (text : List ℕ) (p q : ℕ) → Stopped text p → Stopped text q → p ≡ q
-one_place text p q s t =
-    let e = one_spelling text t.tokens s.tokens t.spelled s.spelled in
-    let (_, same) = one_halt s.tokens s.rest t.rest s.halts (subst (λ l. Halts l t.rest) e t.halts) in
-    s.there ∙ ap (front_place (length text)) same ∙ sym t.there
-
-not_both_stopped : (text : List ℕ) (p q : ℕ) → Refused text (Unexpected p) → Refused text (TooDeep q) → ⊥
-not_both_stopped text p q r s =
-    let e = one_spelling text s.tokens r.tokens s.spelled r.spelled in
-    not_wrong_and_deep r.tokens r.are.rest s.are.rest r.are.stops (subst (λ l. FirstDeep l s.are.rest) e s.are.stops)
-
-not_stopped : (text : List ℕ) (draft : DraftLists) (place : ℕ) → Accepted text draft → Stopped text place → ⊥
-not_stopped text draft place a s =
-    let e = one_spelling text a.tokens s.tokens a.spelled s.spelled in
-    s.halts.stops (goes_on s.tokens s.halts.before s.rest a.are.tree a.are.shallow (a.are.same ∙ e) s.halts.whole)
-
--- the text has a fault
-abbrev Faulty : List ℕ → Type 0
-Faulty text = (fault : ReadFault) × Refused text fault
-
--- the words of a text are a module's, or they stop
-answer : (text : List ℕ) (tokens : List Token) → length text ≤ longest_text → Spelled text tokens → (o : Out (Tree unit)) → read deepest unit tokens ≡ o → ((draft : DraftLists) × Accepted text draft) ⊎ Faulty text
-answer text tokens short spelled (got t []) e = inl (draft_of t, record { short = short; tokens = tokens; spelled = spelled; are = whole_module tokens t (draft_of t) e refl })
-answer text tokens short spelled (got t (w ∷ rest)) e = inr (Unexpected w.place, record { short = short; tokens = tokens; spelled = spelled; are = left_over tokens (w ∷ rest) (length text) t (omega arith) e })
-answer text tokens short spelled (wrong rest) e = inr (Unexpected (front_place (length text) rest), record { short = short; tokens = tokens; spelled = spelled; are = stopped tokens rest (length text) Wrong e })
-answer text tokens short spelled (deep rest) e = inr (TooDeep (front_place (length text) rest), record { short = short; tokens = tokens; spelled = spelled; are = stopped tokens rest (length text) Deep e })
-
-pub some_answer : SomeAnswer
-some_answer text = elim (cases_lt longest_text (length text)) [
-  | inl long ↦ inr (LongText, long)
-  | inr short ↦ elim (some_reading text) [
-    | inl (tokens, spelled) ↦ answer text tokens short spelled (read deepest unit tokens) refl
-    | inr (fault, misspelled) ↦ inr (Word fault, (short, misspelled))
-  ]
+pub some_database : SomeAnswer
+some_database text = elim (some_answer text) [
+  | inl (draft, drafted) ↦ judged text draft drafted (least (faults text draft)) refl
+  | inr (fault, undrafted) ↦ inr (Draft fault, (refl, undrafted))
 ]
 
-pub one_draft : OneDraft
-one_draft text draft other a b =
-    let e = one_spelling text a.tokens b.tokens a.spelled b.spelled in
-    let same = b.are.only a.are.tree (a.are.same ∙ e) in
-    a.are.drafted ∙ ap draft_of same ∙ sym b.are.drafted
+pub one_database : OneDatabase
+one_database text database other a b =
+    a.rows ∙ ap (database_of text) (one_draft text a.draft b.draft a.drafted b.drafted) ∙ sym b.rows
 
-pub one_fault : OneFault
-one_fault text OutOfMemory other a b = absurd a
-one_fault text fault OutOfMemory a b = absurd b
-one_fault text LongText LongText a b = refl
-one_fault text LongText (Word g) a b = absurd (omega (arith, b.0))
-one_fault text LongText (Unexpected q) a b = absurd (omega (arith, b.short))
-one_fault text LongText (TooDeep q) a b = absurd (omega (arith, b.short))
-one_fault text (Word f) LongText a b = absurd (omega (arith, a.0))
-one_fault text (Word f) (Word g) a b = ap Word (one_misspelling text f g a.1 b.1)
-one_fault text (Word f) (Unexpected q) a b = absurd (not_both text b.tokens f b.spelled a.1)
-one_fault text (Word f) (TooDeep q) a b = absurd (not_both text b.tokens f b.spelled a.1)
-one_fault text (Unexpected p) LongText a b = absurd (omega (arith, a.short))
-one_fault text (Unexpected p) (Word g) a b = absurd (not_both text a.tokens g a.spelled b.1)
-one_fault text (Unexpected p) (Unexpected q) a b = ap Unexpected (one_place text p q (wrong_stopped text p a) (wrong_stopped text q b))
-one_fault text (Unexpected p) (TooDeep q) a b = absurd (not_both_stopped text p q a b)
-one_fault text (TooDeep p) LongText a b = absurd (omega (arith, a.short))
-one_fault text (TooDeep p) (Word g) a b = absurd (not_both text a.tokens g a.spelled b.1)
-one_fault text (TooDeep p) (Unexpected q) a b = absurd (not_both_stopped text q p b a)
-one_fault text (TooDeep p) (TooDeep q) a b = ap TooDeep (one_place text p q (deep_stopped text p a) (deep_stopped text q b))
+-- a text breaks one rule first
+one_broken : (text : List ℕ) (fault other : RuleFault) → Breaks text fault → Breaks text other → fault ≡ other
+one_broken text fault other a b =
+    let e = one_draft text b.draft a.draft b.drafted a.drafted in
+    one_least (faults text a.draft) fault other a.least (subst (λ d. IsLeast (faults text d) other) e b.least)
 
-pub not_accepted_and_refused : NotBoth
-not_accepted_and_refused text draft OutOfMemory a r = absurd r
-not_accepted_and_refused text draft LongText a r = absurd (omega (arith, a.short))
-not_accepted_and_refused text draft (Word f) a r = absurd (not_both text a.tokens f a.spelled r.1)
-not_accepted_and_refused text draft (Unexpected p) a r = absurd (not_stopped text draft p a (wrong_stopped text p r))
-not_accepted_and_refused text draft (TooDeep p) a r = absurd (not_stopped text draft p a (deep_stopped text p r))
+pub one_refusal : OneFault
+one_refusal short text OutOfMemory other a b = absurd a
+one_refusal short text fault OutOfMemory a b = absurd b
+one_refusal short text ShortTable ShortTable a b = refl
+one_refusal short text ShortTable (Draft g) a (b, _) = absurd (cc)
+one_refusal short text ShortTable (Rule g) a (b, _) = absurd (cc)
+one_refusal short text (Draft f) ShortTable (a, _) b = absurd (cc)
+one_refusal short text (Draft f) (Draft g) (_, a) (_, b) = ap Draft (one_fault text f g a b)
+one_refusal short text (Draft f) (Rule g) (_, a) (_, b) = absurd (not_accepted_and_refused text b.draft f b.drafted a)
+one_refusal short text (Rule f) ShortTable (a, _) b = absurd (cc)
+one_refusal short text (Rule f) (Draft g) (_, a) (_, b) = absurd (not_accepted_and_refused text a.draft g a.drafted b)
+one_refusal short text (Rule f) (Rule g) (_, a) (_, b) = ap Rule (one_broken text f g a b)
+
+-- a text that says a database breaks no rule
+not_broken : (text : List ℕ) (database : Database) (fault : RuleFault) → Says text database → Breaks text fault → ⊥
+not_broken text database fault a b =
+    let e = one_draft text b.draft a.draft b.drafted a.drafted in
+    let none : faults text b.draft ≡ [] = ap (faults text) e ∙ a.faultless in
+    omega (arith, b.least.among.1, ap length none)
+
+pub not_said_and_refused : NotBoth
+not_said_and_refused text database OutOfMemory a b = absurd b
+not_said_and_refused text database ShortTable a b = absurd (cc)
+not_said_and_refused text database (Draft f) a (_, b) = not_accepted_and_refused text a.draft f a.drafted b
+not_said_and_refused text database (Rule f) a (_, b) = not_broken text database f a b
 
 pub read_laws_lem : ReadLaws
-read_laws_lem = (some_answer, one_draft, one_fault, not_accepted_and_refused)
+read_laws_lem = (some_database, one_database, one_refusal, not_said_and_refused)

@@ -1,3 +1,5 @@
-pub mod Words
 pub mod Laws
-pub mod Room
+pub mod Reading
+pub mod Lexing
+pub mod Computed
+pub mod Worked

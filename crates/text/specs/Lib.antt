@@ -1,4 +1,4 @@
 pub mod Faults
-pub mod Parsed
+pub mod Promise
 pub mod Laws
-pub mod Inner
+pub mod Worked

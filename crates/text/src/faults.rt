@@ -1,38 +1,25 @@
-//! Why a text is refused.
+//! Why a module text is refused.
 ghost use Rattle.std.specs.Prelude.{◌≡◌, Some};
-ghost use Rattle.fault.specs.declared.Layer.TheVariants.{Text};
 ghost use Rattle.text.specs.declared.faults.ReadFault.TheVariants.{OutOfMemory};
-ghost use Rattle.text.specs.Faults.{read_told, fault_line, from_tokens};
+ghost use Rattle.text.specs.Faults.{read_told, fault_line, from_draft};
 
+use drafts::DraftFault;
 use fault::{Fault, Layer, Refusal};
+use least::RuleFault;
 use std::alloc::AllocError;
 use std::{error, fmt};
-use words::{TokensFault, WordFault};
 
 /// Why a module text is not read.
 #[derive(Clone, Copy, PartialEq, Eq, Debug)]
 pub enum ReadFault {
     /// There is no memory for a reader.
     OutOfMemory,
-    /// The text has more than 16,384 bytes.
-    LongText,
-    /// A word of the text is wrong.
-    Word(WordFault),
-    /// At this place stands a word with which no module goes on, or the text ends early.
-    Unexpected(usize),
-    /// At this place stands the sign that opens the seventeenth nesting of an expression.
-    TooDeep(usize),
-}
-
-// A refusal of this layer.
-fn refusal_at(number: u8, place: usize) -> Refusal
-    ensures { result ≡ record { number = number; place = place; layer = Text } }
-{
-    Refusal {
-        number,
-        place,
-        layer: Layer::Text,
-    }
+    /// A table is shorter than its size.
+    ShortTable,
+    /// The text is too long, or its words are wrong or no module's.
+    Draft(DraftFault),
+    /// The module breaks a rule.
+    Rule(RuleFault),
 }
 
 impl Fault for ReadFault {
@@ -40,11 +27,14 @@ impl Fault for ReadFault {
 
     fn refusal(&self) -> Refusal {
         match self {
-            ReadFault::OutOfMemory => refusal_at(0, 0),
-            ReadFault::LongText => refusal_at(2, 0),
-            ReadFault::Word(fault) => fault.refusal(),
-            ReadFault::Unexpected(place) => refusal_at(6, *place),
-            ReadFault::TooDeep(place) => refusal_at(7, *place),
+            ReadFault::OutOfMemory => Layer::Text.refusal(0),
+            ReadFault::ShortTable => Layer::Text.refusal(1),
+            ReadFault::Draft(fault) => fault.refusal(),
+            ReadFault::Rule(fault) => Refusal {
+                number: fault.rule.number(),
+                place: fault.place,
+                layer: Layer::Text,
+            },
         }
     }
 }
@@ -56,6 +46,7 @@ impl fmt::Display for ReadFault {
     fn fmt<W: fmt::Write>(&self, f: &mut fmt::Formatter<W>) -> fmt::Result {
         match self {
             ReadFault::OutOfMemory => f.write_str("no memory for a reader of module texts"),
+            ReadFault::Draft(fault) => fmt::Display::fmt(fault, f),
             fault => fmt::Display::fmt(&fault.refusal(), f),
         }
     }
@@ -63,13 +54,13 @@ impl fmt::Display for ReadFault {
 
 impl error::Error for ReadFault {}
 
-impl From<TokensFault> for ReadFault {
-    ghost from_gives = { λ e r. r ≡ from_tokens e };
+impl From<DraftFault> for ReadFault {
+    ghost from_gives = { λ e r. r ≡ from_draft e };
 
-    fn from(e: TokensFault) -> ReadFault {
+    fn from(e: DraftFault) -> ReadFault {
         match e {
-            TokensFault::OutOfMemory => ReadFault::OutOfMemory,
-            TokensFault::Word(fault) => ReadFault::Word(fault),
+            DraftFault::OutOfMemory => ReadFault::OutOfMemory,
+            fault => ReadFault::Draft(fault),
         }
     }
 }

@@ -1,9 +1,9 @@
 //! Plays a table of module texts, right and wrong, and prints for each whether it is read or how it is refused.
 #![tactic(auto)]
 
+use drafts::Reader;
 use fault::Fault;
 use std::alloc::{AllocError, Global};
-use text::Reader;
 
 /// A small module with every rule of the grammar and every sign. It is played with one space behind each word.
 const SMALL: &str = r"

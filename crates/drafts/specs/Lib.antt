@@ -1,0 +1,4 @@
+pub mod Faults
+pub mod Parsed
+pub mod Laws
+pub mod Inner

@@ -1,9 +1,0 @@
-use Rattle.std.proofs.Common.{arith}
-use Rattle.text.specs.Parsed.{longest_text}
-use Rattle.text.proofs.read_text.Goals as goal
-
-pub returns-clause-memory : goal.returns-clause-memory
-returns-clause-memory c = λ tokens rows. (
-  omega (arith, tokens, c.read_tokens.ensures.reserved),
-  c.read_module.ensures.memory longest_text (omega (arith, c.if-text-gt-LONGEST_TEXT.false, c.deref.ensures.len, c.in_ok-read_tokens.ensures.few)) rows,
-)
