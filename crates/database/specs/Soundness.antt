@@ -1,4 +1,4 @@
--- Which rows can be those of a module. Assumes nothing.
+-- Which rows can be relied on, whether or not some text says them. Assumes nothing.
 use Rattle.std.specs.Prelude.{◌≡◌, ◌⊎◌, ℕ, ◌+◌, ◌-◌, ◌^◌, ◌<◌, ◌≤◌, max, true, cond, ◌==◌, List, [], ◌∷◌, ◌++◌, length, Option, Some, None, IsSome, sum_by, All, Contains}
 use Rattle.grammar.specs.declared.draft.Class.{Class}
 use Rattle.grammar.specs.declared.draft.Class.TheVariants.{Bus}
@@ -182,8 +182,8 @@ StepsLaid d n (x ∷ xs) statements exits before end =
     × StepsLaid d (n + 1) xs others more between end
 
 -- The soundness of a database whose names are parts of a text of so many bytes: each code is one of those listed, each number in a
--- row names a row that is there, unused columns are 0, rows stand in the order of a text, as the names of symbols do, one behind the
--- other, each node is used once and behind its operands, widths agree, and buses are read in order.
+-- row names a row that is there, unused columns are 0; rows stand in the order of a text, the names of symbols one behind the other; each
+-- node is used once and behind its operands; widths agree; and buses are read in order.
 pub record Sound (bytes : ℕ) (d : Database) : Type 0 where
   pub few : Few d
   pub symbols : (n : ℕ) → IsRow d.symbols n → SymbolSound bytes (symbol d n)

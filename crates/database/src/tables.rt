@@ -14,22 +14,22 @@ use grammar::Draft;
 use rules::{MOST_EXITS, MOST_NODES, MOST_STATEMENTS, MOST_STEPS, MOST_TARGETS, Measures};
 use symbols::MOST_SYMBOLS;
 
-/// How many rows the table of symbols has.
+/// How many rows the table of symbols has at least.
 pub const SYMBOLS: usize = MOST_SYMBOLS;
 
-/// How many rows the table of steps has.
+/// How many rows the table of steps has at least.
 pub const STEPS: usize = MOST_STEPS;
 
-/// How many rows the table of statements has.
+/// How many rows the table of statements has at least.
 pub const STATEMENTS: usize = MOST_STATEMENTS;
 
-/// How many rows the table of targets has.
+/// How many rows the table of targets has at least.
 pub const TARGETS: usize = MOST_TARGETS;
 
-/// How many rows the table of exits has.
+/// How many rows the table of exits has at least.
 pub const EXITS: usize = MOST_EXITS;
 
-/// How many rows the table of nodes has.
+/// How many rows the table of nodes has at least.
 pub const NODES: usize = MOST_NODES;
 
 /// The six tables of a database.

@@ -32,7 +32,7 @@ pub const NO_STRING: BitString = BitString {
 };
 
 /// What is measured of a draft: of each target, the side up to it; of each integer of a bit string, the string up to it; of each
-/// node, its width; of each exit, how many integers its list has up to it. What has a fault has no width.
+/// node, its width; of each exit, how many integers its list has up to it. What has a fault has no width, and no count.
 #[derive(Drop)]
 pub struct Measures {
     pub(crate) sides: Vec<Side>,

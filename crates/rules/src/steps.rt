@@ -62,7 +62,8 @@ fn count_up_to(comma: Option<usize>, before: Option<usize>) -> Option<usize>
     }
 }
 
-// How many integers the list of an exit has up to it, from how many those of the exits before it have. Notes its faults.
+// How many integers the list of an exit has up to it, unless one is faulty, from how many those of the exits before it have. Notes its
+// faults.
 fn note_exit(
     steps: &[Step],
     before: &[Option<usize>],
@@ -141,7 +142,7 @@ pub(crate) fn note_statements(
     }
 }
 
-// Notes that a branch has not as many conditions as integers.
+// Notes that the condition of a branch has not as many bits as its list has integers.
 fn note_branch(
     widths: &[Option<usize>],
     counts: &[Option<usize>],

@@ -1,4 +1,4 @@
--- That the rows of every module text are sound. Assumes nothing.
+-- That the rows of every accepted text are sound. Assumes nothing.
 use Rattle.std.specs.Prelude.{◌≡◌, ℕ, List, [], length}
 use Rattle.grammar.specs.Rules.{unit}
 use Rattle.grammar.specs.Trees.{Tree}

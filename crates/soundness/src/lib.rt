@@ -1,4 +1,4 @@
-//! That the rows of every module text are sound.
+//! That the rows of every accepted text are sound.
 #![tactic(auto)]
 
 ghost use Rattle.soundness.specs.Laws.{AcceptedAreSound, LayoutLaws, OneHeld};

@@ -75,8 +75,8 @@ bits_width None s = None
 bits_width (Some w) None = Some w
 bits_width (Some w) (Some s) = Some (s.last - s.first + 1)
 
--- The faults of a reference whose name stands for that symbol, in a statement that drives no bus before `first`. 10: there is no
--- symbol; 14: it is a bus that may not be read yet; 11.
+-- The faults of a reference whose name stands for that symbol. Of the buses that its statement drives, if any, `first` is declared
+-- first. 10: there is no symbol; 14: it is a bus that may not be read yet; 11.
 abbrev pub faults_of : List Item → Option ℕ → Reference → Option ℕ → List RuleFault
 faults_of items first r found =
     fault_if (not (is_some found)) r.name.place Undeclared

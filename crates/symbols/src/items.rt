@@ -56,7 +56,7 @@ pub fn note_width(n: Number, least: &mut Least)
     least.note_if(!is_width(usize::from(n.value)), n.place, Rule::OutOfRange);
 }
 
-// Notes that the width of an item, if one is written, is none.
+// Notes that the width of an item, if one is written, is no width.
 fn note_item_width(width: Option<Number>, least: &mut Least)
     ensures { Notes least.old (width_faults width) least.new }
 {
@@ -87,14 +87,14 @@ pub fn note_overflow(rows: usize, size: usize, place: usize, least: &mut Least) 
     over
 }
 
-// Whether declared bits pass 1,024 by the last of them.
+// Whether so many bits more are those by which the declared bits pass 1,024.
 fn pass(bits: usize, more: usize) -> bool
     ensures { result ≡ (nat_le bits most_declared_bits && nat_lt most_declared_bits (bits + more)) }
 {
     bits <= MOST_DECLARED_BITS && MOST_DECLARED_BITS < bits.saturating_add(more)
 }
 
-// The faults of an item behind others, which declare so many bits.
+// Notes the faults of an item behind others, which declare so many bits.
 fn note_item(text: &[u8], before: &[Item], item: Item, bits: usize, least: &mut Least)
     requires { bits ≡ min (sum_by declared_bits before.now) (2 ^ 64 - 1) }
     ensures { Notes least.old (item_faults text.now before.now item) least.new }

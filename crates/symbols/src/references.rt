@@ -110,7 +110,8 @@ fn note_subscript(
     }
 }
 
-/// The width of a reference, unless it is faulty. Notes its faults, in a statement that drives no bus before the first.
+/// The width of a reference, unless it is faulty. Notes its faults; of the buses that its statement drives, if any, `first` is declared
+/// first.
 pub fn note_reference(
     text: &[u8],
     items: &[Item],

@@ -10,8 +10,8 @@ mod reader;
 pub use faults::ReadFault;
 pub use reader::Reader;
 
-/// The laws of reading. Into tables that are long enough, each text says a database or is refused, does only one of either, and not
-/// both.
+/// The laws of reading. Into tables that are long enough, each text says a database or is refused, and not both; it says one database
+/// at most, and it is refused by one fault at most.
 pub fn read_laws()
     ensures { ReadLaws }
 {}
