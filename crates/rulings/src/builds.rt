@@ -3,7 +3,7 @@
 use std::alloc::{AllocError, Global};
 
 /// A text so many times.
-pub fn times(heap: Global, part: &str, count: usize) -> Result<String, AllocError> {
+pub(crate) fn times(heap: Global, part: &str, count: usize) -> Result<String, AllocError> {
     let mut text = String::new(heap);
     for _ in 0..count {
         text.push_str(part)?;
@@ -12,7 +12,7 @@ pub fn times(heap: Global, part: &str, count: usize) -> Result<String, AllocErro
 }
 
 /// So many items with names of their own, each with that subscript.
-pub fn items(heap: Global, count: usize, subscript: &str) -> Result<String, AllocError> {
+pub(crate) fn items(heap: Global, count: usize, subscript: &str) -> Result<String, AllocError> {
     let mut text = String::new(heap);
     for i in 0..count {
         let sign = if i == 0 { "" } else { ";" };
@@ -22,7 +22,7 @@ pub fn items(heap: Global, count: usize, subscript: &str) -> Result<String, Allo
 }
 
 /// The first so many steps, each of which goes on to the next.
-pub fn steps(heap: Global, count: usize) -> Result<String, AllocError> {
+pub(crate) fn steps(heap: Global, count: usize) -> Result<String, AllocError> {
     let mut text = String::new(heap);
     for before in 0..count {
         let number = before.saturating_add(1);

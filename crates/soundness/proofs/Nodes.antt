@@ -108,7 +108,7 @@ module _ (text : List ℕ) (d : DraftLists) (none : faults text d ≡ []) (ws : 
       let fits : IsWidth (p.bits + q.bits) = (omega arith, most) in
       record { bits = p.bits + q.bits; is = both_widths ◌+◌ (width_at ws a) (width_at ws b) p.bits q.bits p.is q.is; fits = fits }
   form_wide (Join g a b) e s (p, q) =
-      let p1 : 1 ≤ p.bits = p.fits.0 in
+      let some : 1 ≤ p.bits = p.fits.0 in
       let p32 : p.bits ≤ 32 = p.fits.1 in
       let q32 : q.bits ≤ 32 = q.fits.1 in
       let fits : IsWidth (max p.bits q.bits) = (omega arith, omega arith) in
