@@ -1,0 +1,9 @@
+pub mod Databases
+pub mod Deciding
+pub mod Laws
+pub mod Letters
+pub mod Levels
+pub mod Points
+pub mod Rules
+pub mod Runs
+pub mod Usable

@@ -1,0 +1,15 @@
+pub mod Agree
+pub mod AgreeNext
+pub mod AgreeSame
+pub mod AgreeTurns
+pub mod Exists
+pub mod PointLists
+pub mod Points
+pub mod Runs
+pub mod RunsFacts
+pub mod RunsLaws
+pub mod UsableDatabases
+pub mod UsableNodes
+pub mod UsableRows
+pub mod UsableSteps
+pub mod UsableTargets
