@@ -1,0 +1,2 @@
+pub mod Derived
+pub mod Inner
