@@ -1,0 +1,5 @@
+pub mod Rights
+pub mod Joins
+pub mod Places
+pub mod Orders
+pub mod Sizes

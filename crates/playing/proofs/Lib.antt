@@ -1,0 +1,3 @@
+mod Holding
+mod Playing
+mod TextRuns
