@@ -1,44 +1,49 @@
-//! Reads the module text `module.ahpl` of the folder that it is run in, or of the folder that it is given, and prints how many rows
-//! of each table it takes, or why it is refused.
+//! Plays the bench lines `lines.txt` on the module text `module.ahpl`, both in the folder that it is run in or in the one that it is
+//! given.
 #![tactic(auto)]
 
+mod arguments;
+mod bench;
+mod telling;
+
 use anyhow::Context;
-use database::Counts;
-use listing::{Kept, module_path};
+use arguments::{Asked, HELP, read_arguments};
+use bench::play_lines;
+use engine::Engine;
+use fault::Fault;
+use listing::Kept;
+use playing::rows;
+use std::fs;
 use std::process::ExitCode;
-use std::{fs, io};
+use telling::tell_text;
 use text::Reader;
 
-fn show(rt: &HostRuntime, counts: Counts) -> io::Result<()> {
-    let Counts {
-        symbols,
-        steps,
-        statements,
-        targets,
-        exits,
-        nodes,
-    } = counts;
-    println!(rt; "SYMBOLS {symbols}")?;
-    println!(rt; "STEPS {steps}")?;
-    println!(rt; "STATEMENTS {statements}")?;
-    println!(rt; "TARGETS {targets}")?;
-    println!(rt; "EXITS {exits}")?;
-    println!(rt; "NODES {nodes}")
+fn play(rt: &HostRuntime, folder: &str) -> anyhow::Result<ExitCode> {
+    let path = format!(in rt.alloc(); "{folder}/module.ahpl")?;
+    let text = fs::read(rt, path.as_str()).context(path.as_str())?;
+    let mut reader = Reader::new(rt.alloc())?;
+    let mut kept = Kept::filled(rt.alloc(), 0)?;
+    if let Err(fault) = kept.read(&mut reader, text.as_slice()) {
+        rt.println(fault)?;
+        tell_text(rt, path.as_str(), text.as_slice(), fault.refusal())?;
+        return Ok(ExitCode::FAILURE);
+    }
+    let path = format!(in rt.alloc(); "{folder}/lines.txt")?;
+    let lines = fs::read(rt, path.as_str()).context(path.as_str())?;
+    let engine = Engine::new(text.as_slice(), rows(&kept))?;
+    play_lines(rt, &engine, path.as_str(), lines.as_slice())
 }
 
 fn main(rt: HostRuntime) -> anyhow::Result<ExitCode> {
-    let path = module_path(&rt)?;
-    let text = fs::read(&rt, path.as_str()).context(path.as_str())?;
-    let mut reader = Reader::new(rt.alloc())?;
-    let mut kept = Kept::filled(rt.alloc(), 0)?;
-    match kept.read(&mut reader, text.as_slice()) {
-        Ok(counts) => {
-            show(&rt, counts)?;
+    match read_arguments(&rt)? {
+        Asked::Help => {
+            rt.println(HELP)?;
             Ok(ExitCode::SUCCESS)
         }
-        Err(fault) => {
-            rt.println(fault)?;
-            Ok(ExitCode::FAILURE)
+        Asked::Play(folder) => play(&rt, folder.as_str()),
+        Asked::Unknown => {
+            rt.eprintln(HELP)?;
+            Ok(ExitCode::from(2))
         }
     }
 }

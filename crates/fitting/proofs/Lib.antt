@@ -1,0 +1,2 @@
+pub mod ShortNames
+pub mod ShortLines

@@ -1,0 +1,13 @@
+pub mod NameCases
+pub mod NameClasses
+pub mod NameInputs
+pub mod NameRows
+pub mod NameWrites
+pub mod SpacedWords
+pub mod ValueLines
+pub mod ValueOutputs
+pub mod ValueParts
+pub mod ValuePlays
+pub mod ValuePrints
+pub mod ValueReads
+pub mod ValueRows
