@@ -150,6 +150,8 @@ class Writer:
 class RuleWriter(Writer):
     """Writes random texts that keep the rules, but for the sizes of tables, until they are damaged. A few are at the limits."""
 
+    step_counts = [1, 1, 2, 3, 4]
+
     def words(self):
         words = self.module()
         for _ in range(self.pick([0, 1, 1, 1, 2, 3])):
@@ -166,7 +168,7 @@ class RuleWriter(Writer):
                     self.symbols.append((kind, names.pop(), self.pick([1, 1, 2, 3, 4, 4, 8, 16, 31, 32])))
         if not self.symbols:
             self.symbols.append((self.pick(CLASSES), names.pop(), 1))
-        count = self.pick([64, 65] if self.chance(0.02) else [1, 1, 2, 3, 4])
+        count = self.pick([64, 65] if self.chance(0.02) else self.step_counts)
         self.steps = range(1, count + 1)
         steps = " ".join(f"{step} {self.step_action(step == count)} ." for step in self.steps)
         resets = self.some_steps(self.pick([1, 1, 2]))
