@@ -32,10 +32,10 @@ pub fn sentence(number: u8) -> &'static str {
             "there is no such input, point or lane, or the levels to open with are not one for each register bit",
         26 => "the output is shorter than 4,096 bytes, or than the line to be printed",
         27 =>
-            "the first line must name the inputs, in the order of their declaration, with one space between",
+            "the first line must name the inputs in declared order, one space between, and end in a line feed",
         28 =>
-            "a line of values must have a letter 0, 1 or X for each input bit, and one space between inputs",
-        0 => "there is not enough memory",
+            "a line of values must have 0, 1 or X for each input bit, one space between inputs, and end in a line feed",
+        0 => "there is not enough memory, or a store was wished too large",
         _ => "the call is refused",
     }
 }

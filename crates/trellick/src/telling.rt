@@ -7,7 +7,7 @@ use std::io;
 pub fn tell_text(rt: &HostRuntime, path: &str, text: &[u8], refusal: Refusal) -> io::Result<()> {
     let Refusal { number, place, .. } = refusal;
     let why = sentence(number);
-    // A text that is too long, or a want of memory, has no place.
+    // A short table, a text that is too long and a want of memory have no place.
     if number < 3 {
         return eprintln!(rt; "{path}: {why}");
     }
