@@ -3,7 +3,7 @@ use std::env::Env;
 use std::{env, io};
 
 /// What `--help` prints.
-pub const HELP: &str = "\
+pub(crate) const HELP: &str = "\
 Usage: trellick [FOLDER]
 
 Plays a module on a bench, clock by clock, in letters 0, 1 and X (unknown).
@@ -23,7 +23,7 @@ A text or a line that is refused ends the program, with status 1. It prints
 and says on the error stream what is wrong, and where.";
 
 /// What the program is asked for.
-pub enum Asked {
+pub(crate) enum Asked {
     /// Its help.
     Help,
     /// To play the module of a folder.
@@ -33,7 +33,7 @@ pub enum Asked {
 }
 
 /// What the arguments ask for.
-pub fn read_arguments(rt: &(impl Env + AllocGlobal)) -> io::Result<Asked> {
+pub(crate) fn read_arguments(rt: &(impl Env + AllocGlobal)) -> io::Result<Asked> {
     let mut arguments = env::args(rt)?.skip(1);
     let first = match arguments.next() {
         None => return Ok(Asked::Play(String::from_str(rt.alloc(), ".")?)),

@@ -40,7 +40,7 @@ fn print_line(
 }
 
 /// Plays the lines of a text, all registers opened at X, and prints what comes of them.
-pub fn play_lines(
+pub(crate) fn play_lines(
     rt: &HostRuntime,
     engine: &Engine<'_>,
     path: &str,

@@ -4,7 +4,12 @@ use fault::{Layer, Refusal};
 use std::io;
 
 /// Tells why a module text is refused: line and column, in words, and the line with a caret below the place.
-pub fn tell_text(rt: &HostRuntime, path: &str, text: &[u8], refusal: Refusal) -> io::Result<()> {
+pub(crate) fn tell_text(
+    rt: &HostRuntime,
+    path: &str,
+    text: &[u8],
+    refusal: Refusal,
+) -> io::Result<()> {
     let Refusal { number, place, .. } = refusal;
     let why = sentence(number);
     // A short table, a text that is too long and a want of memory have no place.
@@ -19,7 +24,7 @@ pub fn tell_text(rt: &HostRuntime, path: &str, text: &[u8], refusal: Refusal) ->
 }
 
 /// Tells why a bench line is refused: its number, in words, and the line.
-pub fn tell_line(
+pub(crate) fn tell_line(
     rt: &HostRuntime,
     path: &str,
     text: &[u8],
