@@ -10,6 +10,7 @@ use super::cell_list::CellList;
 use super::part::Part;
 use super::sources::Sources;
 use level::Level;
+use store::PartKind;
 
 /// A cell of a table, whose signal has the cell's place for its number. The module is private, so no crate above can call what
 /// has a `requires` here.
@@ -25,6 +26,12 @@ pub trait Cell: Copy {
 
     /// Whether the cell names a leaf or a signal that is not there, where so many signals stand before it.
     ghost dangles: { ℕ → Self → Bool };
+
+    /// What a part costs in cells of this type.
+    // No body here: the constant of a type that is known is a table of the program's, and that of a type parameter is laid on the
+    // stack anew at each call, which made placing slower.
+    fn cost(kind: PartKind) -> usize
+        ensures { result ≡ price COSTS kind };
 
     /// The level of the cell.
     fn level<L: Level>(self, sources: &Sources<L>) -> L

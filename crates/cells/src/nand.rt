@@ -9,6 +9,7 @@ use super::part::Part;
 use super::pattern::{Stage, pattern};
 use super::sources::Sources;
 use level::Level;
+use store::PartKind;
 
 /// A constant, a leaf by its number, or the NAND of two signals before the cell.
 // Signals by number and no boxes: the numbers are what a store answers, and many cells may read one signal.
@@ -42,6 +43,10 @@ impl Cell for NandCell {
     ghost letter = { nand_letter };
 
     ghost dangles = { nand_dangles };
+
+    fn cost(kind: PartKind) -> usize {
+        Self::COSTS[usize::from(kind.code())]
+    }
 
     fn level<L: Level>(self, sources: &Sources<L>) -> L {
         match self {

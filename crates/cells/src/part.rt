@@ -68,6 +68,10 @@ impl Cell for Part {
 
     ghost dangles = { gate_dangles };
 
+    fn cost(kind: PartKind) -> usize {
+        Self::COSTS[usize::from(kind.code())]
+    }
+
     fn level<L: Level>(self, sources: &Sources<L>) -> L {
         let (a, b) = (self.first, self.second);
         match self.kind {

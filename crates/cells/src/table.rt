@@ -53,6 +53,10 @@ impl<C: Cell> Store for CellTable<C> {
         Ok(CellTable { cells })
     }
 
+    fn cost(kind: PartKind) -> usize {
+        C::cost(kind)
+    }
+
     fn count(&self) -> usize {
         self.cells.len()
     }

@@ -52,7 +52,7 @@ impl<'a> Cursor<'a> {
         ensures { result ≡ starts (T.rule word) (sort self.now) }
     {
         match self.rest {
-            [token, ..] => word.value_of(*token).is_some(),
+            [token, ..] => word.accepts(token.kind),
             [] => false,
         }
     }

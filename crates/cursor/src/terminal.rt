@@ -4,6 +4,7 @@ ghost use Rattle.grammar.specs.Rules.{Rule, mark, keyword, name, integer};
 ghost use Rattle.grammar.specs.Trees.{Tree};
 ghost use Rattle.grammar.specs.Drafts.{name_of, number_of};
 ghost use Rattle.grammar.specs.Reading.{IsWord, word_tree};
+ghost use Rattle.grammar.specs.Sorts.{kind_sort, starts};
 ghost use Rattle.cursor.specs.Told.{mark_place, keyword_place};
 
 use grammar::{Name, Number};
@@ -20,6 +21,11 @@ pub trait Terminal: Copy {
     /// What it says, by its tree.
     ghost value: { (word : Self) → Tree (rule word) → Self.Value };
 
+    /// Whether a word of that kind is such a word.
+    // Apart from `value_of`: readers ask of one word many times before they take it, and asking makes nothing.
+    fn accepts(self, kind: Kind) -> bool
+        ensures { result ≡ starts (rule self) (kind_sort kind) };
+
     /// What the token says, if it is such a word.
     fn value_of(self, token: Token) -> Option<Self::Value>
         ensures { result ≡ option_map (value self) (word_tree (rule self) token) };
@@ -35,6 +41,14 @@ impl Terminal for Sign {
     ghost rule = { mark };
 
     ghost value = { λ _. mark_place };
+
+    #[inline(always)]
+    fn accepts(self, kind: Kind) -> bool {
+        match kind {
+            Kind::Mark(sign) => sign == self,
+            _ => false,
+        }
+    }
 
     fn value_of(self, token: Token) -> Option<usize> {
         match token.kind {
@@ -53,6 +67,14 @@ impl Terminal for Keyword {
     ghost rule = { keyword };
 
     ghost value = { λ _. keyword_place };
+
+    #[inline(always)]
+    fn accepts(self, kind: Kind) -> bool {
+        match kind {
+            Kind::Reserved(keyword) => keyword == self,
+            _ => false,
+        }
+    }
 
     fn value_of(self, token: Token) -> Option<usize> {
         match token.kind {
@@ -75,6 +97,11 @@ impl Terminal for AnyName {
 
     ghost value = { λ _. name_of };
 
+    #[inline(always)]
+    fn accepts(self, kind: Kind) -> bool {
+        matches!(kind, Kind::Name(_))
+    }
+
     fn value_of(self, token: Token) -> Option<Name> {
         let place = token.place;
         match token.kind {
@@ -96,6 +123,11 @@ impl Terminal for AnyInteger {
     ghost rule = { λ _. integer };
 
     ghost value = { λ _. number_of };
+
+    #[inline(always)]
+    fn accepts(self, kind: Kind) -> bool {
+        matches!(kind, Kind::Integer(_))
+    }
 
     fn value_of(self, token: Token) -> Option<Number> {
         let place = token.place;

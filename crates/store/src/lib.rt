@@ -4,9 +4,10 @@
 //! a number of free cells. Code above is generic over `Store` and is proved against that meaning alone.
 #![tactic(auto)]
 
-ghost use Rattle.std.specs.Prelude.{◌≡◌, ℕ, ◌+◌, ◌≤◌, List, length, Some, MatchResult};
+ghost use Rattle.std.specs.Prelude.{◌≡◌, ℕ, ◌+◌, ◌≤◌, List, [], ◌∷◌, length, Some, MatchResult};
 ghost use Rattle.level.specs.declared.letter.Letter.{Letter};
 ghost use Rattle.store.specs.declared.part.PartKind.{PartKind};
+ghost use Rattle.store.specs.declared.part.PartKind.TheVariants.{Zero, One, Leaf, Not, And, Or, Xor};
 ghost use Rattle.store.specs.Faults.{store_told, NotMade};
 ghost use Rattle.store.specs.Laws.{StoreLaws};
 ghost use Rattle.store.specs.Meaning.{Meaning};
@@ -81,7 +82,8 @@ pub trait Store {
 }
 
 /// The laws of codes and refusals: a code names its kind again, and of the refusals that speak against a part the one
-/// of the lowest number is told.
+/// of the lowest number is told. And which kinds `PartKind::ALL` lists.
 pub fn store_laws()
-    ensures { StoreLaws }
+    ensures laws { StoreLaws }
+    ensures all { PartKind.ALL ≡ Zero ∷ One ∷ Leaf ∷ Not ∷ And ∷ Or ∷ Xor ∷ [] }
 {}

@@ -58,11 +58,19 @@ impl TryFrom<u8> for PartKind {
 
     ghost try_from_gives = { KindRead };
 
+    // Case by case, and no look-up in `ALL`: a kind is its code, so that these cases cost a comparison, where the list has to be read.
+    // What the list has is said by `store_laws`.
     fn try_from(code: u8) -> Result<PartKind, StoreFault> {
-        PartKind::ALL
-            .get(usize::from(code))
-            .copied()
-            .ok_or(StoreFault::NoSuchPart)
+        match code {
+            0 => Ok(PartKind::Zero),
+            1 => Ok(PartKind::One),
+            2 => Ok(PartKind::Leaf),
+            3 => Ok(PartKind::Not),
+            4 => Ok(PartKind::And),
+            5 => Ok(PartKind::Or),
+            6 => Ok(PartKind::Xor),
+            _ => Err(StoreFault::NoSuchPart),
+        }
     }
 }
 
